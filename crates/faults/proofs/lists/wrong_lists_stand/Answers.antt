@@ -1,0 +1,5 @@
+use Rattle.faults.proofs.WrongLists.{wrong-lists}
+use Rattle.faults.proofs.lists.wrong_lists_stand.Needs as need
+
+pub returns : need.returns
+returns c = wrong-lists
