@@ -1,0 +1,94 @@
+-- When a field is read as a number, and when it is not.
+use mathlib.Core.Bool.{Bool, true, false, cond, _&&_}
+use mathlib.Core.List.{List, [], _∷_, _++_}
+use mathlib.Core.Logic.{_⊎_, inl, inr}
+use mathlib.Core.Path.{_≡_, refl, sym, ap, subst, _∙_}
+use Prim.Native.Nat.{ℕ, zero, suc, _+_, _-_, _*_, _^_, _≤_, _<_}
+use native.Mathlib.Omega.{arith}
+use lib.IntN.{ℤ, pos, negsuc, negℤ, natAbs}
+use lib.ListN.{length, replicate, drop, take, length-append, length-replicate}
+use lib.Signed.{leZ, _≤ℤ_, _<ℤ_}
+use Rattle.std.proofs.shelf.Equals.{sameBytes-decides}
+use Rattle.std.proofs.shelf.Lists.{drop-append-le, drop-replicate, take-all}
+use Rattle.std.proofs.shelf.Signed.{ints}
+use Rattle.std.proofs.shelf.Tests.{cases-bool, cond-true, cond-false, and-from, and-left, and-right, lt-leb}
+use Rattle.std.specs.Written.{decimal, signed}
+use Rattle.std.specs.declared.option.Option.{Option}
+use Rattle.std.specs.declared.option.Option.the-variants.{None, Some}
+use Rattle.std.specs.shelf.Text.{sameBytes}
+use Rattle.plans.specs.Text.{text, spelled, dashed, meant, within, reads}
+
+-- a text in fewer columns is the end of the text in twenty
+pub text-narrow : (w : ℕ) (z : ℤ) → w ≤ 20 → length (signed z) ≤ w → drop (20 - w) (text 20 z) ≡ text w z
+unfolding text
+text-narrow w z le room =
+    let l : 20 - w ≤ length (replicate {A = ℕ} (20 - length (signed z)) 32) = simp length-replicate (omega arith) in
+    let n : 20 - length (signed z) - (20 - w) ≡ w - length (signed z) = omega arith in
+    drop-append-le (20 - w) (replicate (20 - length (signed z)) 32) (signed z) l
+    ∙ ap (λ t. t ++ signed z) (drop-replicate (20 - w) (20 - length (signed z)) 32 ∙ ap (λ i. replicate i 32) n)
+
+pub length-text : (w : ℕ) (z : ℤ) → length (signed z) ≤ w → length (text w z) ≡ w
+unfolding text
+length-text w z room = length-append (replicate (w - length (signed z)) 32) (signed z) ∙ simp length-replicate (omega arith)
+
+-- the columns of a text that a field of w columns is held against
+pub text-part : (w : ℕ) (z : ℤ) (columns : List ℕ) → w ≤ 20 → length (signed z) ≤ w → columns ≡ text 20 z
+    → take (20 - (20 - w)) (drop (20 - w) columns) ≡ text w z
+text-part w z columns le room e =
+    let n : length (text w z) ≤ 20 - (20 - w) = omega (arith, length-text w z room) in
+    ap (λ t. take (20 - (20 - w)) (drop (20 - w) t)) e ∙ ap (take (20 - (20 - w))) (text-narrow w z le room) ∙ take-all (20 - (20 - w)) (text w z) n
+
+same-no : (xs ys : List ℕ) → (xs ≡ ys → ⊥) → sameBytes xs ys ≡ false
+same-no xs ys n =
+    elim (cases-bool (sameBytes xs ys)) [ inl t ↦ absurd (n (sameBytes-decides xs ys .0 t)) | inr f ↦ f ]
+
+within-yes : (lo hi z : ℤ) → lo ≤ℤ z → z ≤ℤ hi → within lo hi z ≡ true
+within-yes lo hi z l h = grind (arith, ints)
+
+within-low : (lo hi z : ℤ) → z <ℤ lo → within lo hi z ≡ false
+within-low lo hi z l = and-left (leZ lo z) (leZ z hi) (grind (arith, ints))
+
+within-high : (lo hi z : ℤ) → hi <ℤ z → within lo hi z ≡ false
+within-high lo hi z h = and-right (leZ lo z) (leZ z hi) (grind (arith, ints))
+
+below : (lo : ℤ) (s : ℕ) → natAbs lo ≤ 2 ^ 62 → 2 ^ 62 < s → leZ lo (negℤ (pos s)) ≡ false
+below (pos n) zero l far = absurd (omega arith)
+below (pos n) (suc s) l far = refl
+below (negsuc n) zero l far = absurd (omega arith)
+below (negsuc n) (suc s) l far = lt-leb s n (omega arith)
+
+above : (hi : ℤ) (s : ℕ) → natAbs hi ≤ 2 ^ 62 → 2 ^ 62 < s → leZ (pos s) hi ≡ false
+above (pos n) s h far = lt-leb s n (omega arith)
+above (negsuc n) s h far = refl
+
+within-far : (lo hi : ℤ) (s : ℕ) (b : Bool) → natAbs lo ≤ 2 ^ 62 → natAbs hi ≤ 2 ^ 62 → 2 ^ 62 < s
+    → within lo hi (cond b (negℤ (pos s)) (pos s)) ≡ false
+within-far lo hi s true l h far = and-left (leZ lo (negℤ (pos s))) (leZ (negℤ (pos s)) hi) (below lo s l far)
+within-far lo hi s false l h far = and-right (leZ lo (pos s)) (leZ (pos s) hi) (above hi s h far)
+
+module _ (w : ℕ) (lo hi : ℤ) (bs : List ℕ) where
+  none-by-limits : within lo hi (meant bs) ≡ false → None ≡ reads w lo hi bs
+  unfolding reads
+  none-by-limits e = sym (cond-false _ _ _ (and-left (within lo hi (meant bs)) _ e))
+
+  pub reads-far : natAbs lo ≤ 2 ^ 62 → natAbs hi ≤ 2 ^ 62 → 2 ^ 62 < spelled 0 bs → None ≡ reads w lo hi bs
+  reads-far l h far = none-by-limits (within-far lo hi (spelled 0 bs) (dashed bs) l h far)
+
+  pub reads-low : (z : ℤ) → z ≡ meant bs → z <ℤ lo → None ≡ reads w lo hi bs
+  reads-low z e l = none-by-limits (ap (within lo hi) (sym e) ∙ within-low lo hi z l)
+
+  pub reads-high : (z : ℤ) → z ≡ meant bs → hi <ℤ z → None ≡ reads w lo hi bs
+  reads-high z e h = none-by-limits (ap (within lo hi) (sym e) ∙ within-high lo hi z h)
+
+  pub reads-text : (z : ℤ) → z ≡ meant bs → lo ≤ℤ z → z ≤ℤ hi → bs ≡ text w z → Some z ≡ reads w lo hi bs
+  unfolding reads
+  reads-text z e l h t =
+      let same : sameBytes bs (text w (meant bs)) ≡ true = sameBytes-decides bs (text w (meant bs)) .1 (t ∙ ap (text w) e) in
+      let inside : within lo hi (meant bs) ≡ true = ap (within lo hi) (sym e) ∙ within-yes lo hi z l h in
+      ap Some e ∙ sym (cond-true _ _ _ (and-from (within lo hi (meant bs)) _ inside same))
+
+  pub reads-other : (z : ℤ) → z ≡ meant bs → (bs ≡ text w z → ⊥) → None ≡ reads w lo hi bs
+  unfolding reads
+  reads-other z e n =
+      let same : sameBytes bs (text w (meant bs)) ≡ false = same-no bs (text w (meant bs)) (λ t. n (t ∙ ap (text w) (sym e))) in
+      sym (cond-false _ _ _ (and-right (within lo hi (meant bs)) _ same))

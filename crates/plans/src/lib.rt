@@ -1,0 +1,11 @@
+// Plans, which name a board for each role and price both, and the sheets that they are written as.
+mod field;
+pub mod line;
+mod numeral;
+pub mod plan;
+pub mod plan_calls;
+
+pub use line::Line;
+pub use line::LineDebug;
+pub use line::LinePartialEq;
+pub use plan::Plan;
