@@ -1,3 +1,5 @@
+pub mod Fields
+pub mod LineFields
+pub mod LinesRead
 pub mod Numerals
-pub mod Reading
 pub mod Spelling

@@ -1,9 +1,11 @@
 // Plans, which name a board for each role and price both, and the sheets that they are written as.
+mod columns;
 mod field;
 pub mod line;
 mod numeral;
 pub mod plan;
 pub mod plan_calls;
+mod reading;
 
 pub use line::Line;
 pub use line::LineDebug;

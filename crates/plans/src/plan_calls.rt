@@ -44,7 +44,7 @@ impl Plan {
 
     // The line of number `x`.
     pub fn line(&self, x: usize) -> Result<Line, Fault>
-        ensures { λ r. ⌜ Answers Layer.Plans Call.Ask (line-refusal (now (self .entry)) x) r (λ l. l ≡ line-of (now (self .entry)) x) (now (self .entry) ≡ now (self .entry)) ⌝ }
+        ensures { λ r. ⌜ Answers Layer.Plans Call.Ask (line-refusal (now (self .entry)) x) r (λ l. l ≡ line-of (now (self .entry)) x) (Unit {0}) ⌝ }
     {
         if x < self.boards && x < BOARDS {
             Ok(self.lines[x])

@@ -16,7 +16,7 @@ use Rattle.std.specs.Orderings.{Decides}
 use Rattle.std.specs.declared.option.Option.the-variants.{None, Some}
 use Rattle.std.specs.Written.{signed}
 use Rattle.plans.specs.Text.{text, meant, reads}
-use Rattle.plans.proofs.Reading.{text-part, reads-far, reads-low, reads-high, reads-text, reads-other}
+use Rattle.plans.proofs.Fields.{text-part, reads-far, reads-low, reads-high, reads-text, reads-other}
 use Rattle.plans.proofs.field.number.Needs as need
 use Rattle.plans.proofs.field.number.Needs.{then-z-low·by·then-z-low, then-z-low·by·else-z-low·then-high-z}
 
