@@ -41,7 +41,7 @@ text-part w z columns le room e =
     let n : length (text w z) ≤ 20 - (20 - w) = omega (arith, length-text w z room) in
     ap (λ t. take (20 - (20 - w)) (drop (20 - w) t)) e ∙ ap (take (20 - (20 - w))) (text-narrow w z le room) ∙ take-all (20 - (20 - w)) (text w z) n
 
-same-no : (xs ys : List ℕ) → (xs ≡ ys → ⊥) → sameBytes xs ys ≡ false
+pub same-no : (xs ys : List ℕ) → (xs ≡ ys → ⊥) → sameBytes xs ys ≡ false
 same-no xs ys n =
     elim (cases-bool (sameBytes xs ys)) [ inl t ↦ absurd (n (sameBytes-decides xs ys .0 t)) | inr f ↦ f ]
 

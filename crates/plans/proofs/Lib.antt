@@ -2,4 +2,5 @@ pub mod Fields
 pub mod LineFields
 pub mod LinesRead
 pub mod Numerals
+pub mod SheetRead
 pub mod Spelling

@@ -3,9 +3,10 @@ ghost use mathlib.Core.Path.{_≡_};
 ghost use Prim.Native.Nat.{_≤_, _<_};
 ghost use Rattle.std.specs.Results.{Cases};
 ghost use Rattle.std.specs.declared.option.Option.the-variants.{None, Some};
+ghost use Rattle.faults.specs.Answers.{Answers};
 ghost use Rattle.faults.specs.declared.fault.Call.{Call};
 ghost use Rattle.faults.specs.declared.fault.Layer.{Layer};
-ghost use Rattle.plans.specs.Sheet.{first-illegal, line-fields, line-text, lines-fields, Legal-line, Lines-read, part, sheet-length};
+ghost use Rattle.plans.specs.Sheet.{first-illegal, line-fields, line-text, lines-fields, Legal-line, Lines-read, Sheet-of, part, read-refusal, sheet-length};
 use crate::columns::line_ends;
 use crate::columns::small;
 use crate::columns::wide;
@@ -18,6 +19,9 @@ use faults::Layer;
 
 // The largest price; the least is as much below zero.
 const PRICE: i64 = 1_125_899_906_842_624;
+
+// The largest bill.
+const BILL: i64 = 281_474_976_710_656;
 
 fn illegal(line: usize, column: usize) -> Fault
     ensures { λ r. ⌜ (r .cause ≡ Cause.Field line column) × (r .layer ≡ Layer.Plans) × (r .call ≡ Call.Read) ⌝ }
@@ -72,4 +76,26 @@ fn read_lines(bytes: &[u8], boards: usize, bill: u64) -> Result<Plan, Fault>
         bill,
         lines,
     })
+}
+
+impl Plan {
+    // The plan whose sheet the bytes are.
+    pub fn read(bytes: &[u8]) -> Result<Plan, Fault>
+        ensures { λ r. ⌜ Answers Layer.Plans Call.Read (read-refusal (now (bytes .entry))) r (λ p. Sheet-of p (now (bytes .entry))) (Unit {0}) ⌝ }
+    {
+        let Some(boards) = small(bytes, 0, 1, 16) else {
+            return Err(illegal(1, 1));
+        };
+        let Some(bill) = wide(bytes, 4, 0, BILL) else {
+            return Err(illegal(1, 5));
+        };
+        if !line_ends(bytes, 24) {
+            return Err(illegal(1, 25));
+        }
+        let plan = read_lines(bytes, boards, bill as u64)?;
+        if bytes.len() > 25 + 49 * boards {
+            return Err(illegal(boards + 2, 1));
+        }
+        Ok(plan)
+    }
 }
