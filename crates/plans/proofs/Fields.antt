@@ -18,7 +18,7 @@ use Rattle.std.specs.Written.{decimal, signed}
 use Rattle.std.specs.declared.option.Option.{Option}
 use Rattle.std.specs.declared.option.Option.the-variants.{None, Some}
 use Rattle.std.specs.shelf.Text.{sameBytes}
-use Rattle.plans.specs.Sheet.{part}
+use Rattle.plans.specs.Sheet.{part, price-low, price-high}
 use Rattle.plans.specs.Text.{text, spelled, dashed, meant, within, reads, Reads}
 
 -- a text in fewer columns is the end of the text in twenty
@@ -156,3 +156,7 @@ module _ (w : ℕ) (lo hi : ℤ) (bs : List ℕ) where
             reads-other (meant bs) refl (λ e. short (ap length e ∙ length-text w (meant bs) (room (meant bs) (inside .0) (inside .1)))))
         | inr f ↦ none-by-limits f
       ]
+
+pub price-small : (z : ℤ) → within price-low price-high z ≡ true → natAbs z ≤ 2 ^ 62
+price-small (pos n) e = let h = within-from price-low price-high (pos n) e in omega (arith, ints)
+price-small (negsuc n) e = let h = within-from price-low price-high (negsuc n) e in omega (arith, ints)

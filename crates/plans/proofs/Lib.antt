@@ -2,5 +2,6 @@ pub mod Fields
 pub mod LineFields
 pub mod LinesRead
 pub mod Numerals
+pub mod Pasting
 pub mod SheetRead
 pub mod Spelling

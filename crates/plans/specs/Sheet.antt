@@ -144,15 +144,21 @@ read-refusal bs = read-by bs (reads 4 (pos 1) (pos 16) (part bs 0 4))
 
 -- Writing.
 
--- the first number beyond its limits in the lines from x on
+-- the column of the first number of a line that is beyond its limits
+abbrev pub wrong-column : ℕ → Line → Option ℕ
+wrong-column n l =
+    cond (ltb (l .board) n)
+    (cond (within price-low price-high (l .u)) (cond (within price-low price-high (l .v)) None (Some 29)) (Some 9))
+    (Some 5)
+
+-- the field at that column of line x, or what the lines after it have
+abbrev pub wrong-or : ℕ → Option ℕ → Option Cause → Option Cause
+wrong-or x None later = later
+wrong-or x (Some column) later = Some (Field (x + 2) column)
+
 abbrev pub wrong-line : ℕ → ℕ → List Line → Option Cause
 wrong-line n x [] = None
-wrong-line n x (l ∷ ls) =
-    cond (ltb (l .board) n)
-    (cond (within price-low price-high (l .u))
-    (cond (within price-low price-high (l .v)) (wrong-line n (x + 1) ls) (Some (Field (x + 2) 29)))
-    (Some (Field (x + 2) 9)))
-    (Some (Field (x + 2) 5))
+wrong-line n x (l ∷ ls) = wrong-or x (wrong-column n l) (wrong-line n (x + 1) ls)
 
 abbrev pub wrong-number : Plan → Option Cause
 wrong-number p = cond (leb (p .bill) 281474976710656) (wrong-line (p .boards) 0 (take (p .boards) (p .lines))) (Some (Field 1 5))

@@ -1,11 +1,13 @@
 // Plans, which name a board for each role and price both, and the sheets that they are written as.
 mod columns;
 mod field;
+pub mod limits;
 pub mod line;
 mod numeral;
 pub mod plan;
 pub mod plan_calls;
 mod reading;
+mod writing;
 
 pub use line::Line;
 pub use line::LineDebug;

@@ -10,18 +10,14 @@ ghost use Rattle.plans.specs.Sheet.{first-illegal, line-fields, line-text, lin
 use crate::columns::line_ends;
 use crate::columns::small;
 use crate::columns::wide;
+use crate::limits::BILL;
+use crate::limits::PRICE;
 use crate::line::Line;
 use crate::plan::Plan;
 use faults::Call;
 use faults::Cause;
 use faults::Fault;
 use faults::Layer;
-
-// The largest price; the least is as much below zero.
-const PRICE: i64 = 1_125_899_906_842_624;
-
-// The largest bill.
-const BILL: i64 = 281_474_976_710_656;
 
 fn illegal(line: usize, column: usize) -> Fault
     ensures { λ r. ⌜ (r .cause ≡ Cause.Field line column) × (r .layer ≡ Layer.Plans) × (r .call ≡ Call.Read) ⌝ }

@@ -1,0 +1,74 @@
+// Writing a sheet.
+ghost use mathlib.Core.List.{[], _∷_};
+ghost use mathlib.Core.Path.{_≡_};
+ghost use Prim.Native.Nat.{_+_, _≤_, _<_, _^_};
+ghost use lib.IntN.{natAbs, pos};
+ghost use lib.ListN.{length};
+ghost use Rattle.std.specs.Written.{signed};
+ghost use Rattle.std.specs.shelf.Lists.{paste};
+ghost use Rattle.plans.specs.Sheet.{Legal-line, line-text, wrong-column};
+ghost use Rattle.plans.specs.Text.{text};
+use crate::limits::BILL;
+use crate::limits::PRICE;
+use crate::line::Line;
+use crate::numeral::numeral;
+
+// The column of the line's first number that is beyond its limits.
+fn wrong(line: &Line, boards: usize) -> Option<usize>
+    ensures { λ r. ⌜ r ≡ wrong-column boards (now (line .entry)) ⌝ }
+{
+    if line.board >= boards {
+        Some(5)
+    } else if line.u < -PRICE || PRICE < line.u {
+        Some(9)
+    } else if line.v < -PRICE || PRICE < line.v {
+        Some(29)
+    } else {
+        None
+    }
+}
+
+// Puts a number's text into the `width` columns at `at`.
+fn put(buffer: &mut [u8], at: usize, width: usize, z: i64)
+    requires { ⌜ (width ≤ 20) × (at + width ≤ length (now buffer)) × (natAbs z < 10 ^ 19) × (length (signed z) ≤ width) ⌝ }
+    ensures { λ _. ⌜ now (buffer .exit) ≡ paste (now (buffer .entry)) at (text width z) width ⌝ }
+{
+    let columns = numeral(z);
+    buffer[at..at + width].copy_from_slice(&columns[20 - width..20]);
+}
+
+// Puts a number into the four columns at `at`.
+fn put_small(buffer: &mut [u8], at: usize, n: usize)
+    requires { ⌜ (at + 4 ≤ length (now buffer)) × (n ≤ 999) ⌝ }
+    ensures { λ _. ⌜ now (buffer .exit) ≡ paste (now (buffer .entry)) at (text 4 (pos n)) 4 ⌝ }
+{
+    put(buffer, at, 4, n as i64);
+}
+
+// Puts a number into the twenty columns at `at`.
+fn put_wide(buffer: &mut [u8], at: usize, z: i64)
+    requires { ⌜ (at + 20 ≤ length (now buffer)) × (natAbs z ≤ 2 ^ 62) ⌝ }
+    ensures { λ _. ⌜ now (buffer .exit) ≡ paste (now (buffer .entry)) at (text 20 z) 20 ⌝ }
+{
+    put(buffer, at, 20, z);
+}
+
+// Ends a line at `at`.
+fn put_end(buffer: &mut [u8], at: usize)
+    requires { ⌜ at + 1 ≤ length (now buffer) ⌝ }
+    ensures { λ _. ⌜ now (buffer .exit) ≡ paste (now (buffer .entry)) at (10 ∷ []) 1 ⌝ }
+{
+    buffer[at] = b'\n';
+}
+
+// Puts the line of number `x` at `at`.
+fn put_line(buffer: &mut [u8], at: usize, x: usize, line: &Line)
+    requires { ⌜ (x < 16) × (at + 49 ≤ length (now buffer)) × Legal-line 16 (now line) ⌝ }
+    ensures { λ _. ⌜ now (buffer .exit) ≡ paste (now (buffer .entry)) at (line-text x (now (line .entry))) 49 ⌝ }
+{
+    put_small(buffer, at, x);
+    put_small(buffer, at + 4, line.board);
+    put_wide(buffer, at + 8, line.u);
+    put_wide(buffer, at + 28, line.v);
+    put_end(buffer, at + 48);
+}
