@@ -43,7 +43,7 @@ illegal-before bs (f ∷ fs) gs c e =
 pub lines-next : (n x k j : ℕ) → k ≡ suc j → lines-fields n x k ≡ line-fields n x ++ lines-fields n (x + 1) j
 lines-next n x k j e = ap (lines-fields n x) e
 
-lines-push : (y : ℕ) (ls : List Line) (l : Line) (x : ℕ) → y + length ls ≡ x → lines-text y (ls ++ l ∷ []) ≡ lines-text y ls ++ line-text x l
+pub lines-push : (y : ℕ) (ls : List Line) (l : Line) (x : ℕ) → y + length ls ≡ x → lines-text y (ls ++ l ∷ []) ≡ lines-text y ls ++ line-text x l
 lines-push y [] l x e = append-nil (line-text y l) ∙ ap (λ i. line-text i l) (let s : y ≡ x = omega arith in s)
 lines-push y (m ∷ ls) l x e =
     ap (λ t. line-text y m ++ t) (lines-push (y + 1) ls l x (omega arith)) ∙ sym (append-assoc (line-text y m) (lines-text (y + 1) ls) (line-text x l))

@@ -5,15 +5,18 @@ use Prim.Native.Nat.{ℕ, zero, suc, _+_, _-_, _*_, _^_, _≤_, _<_}
 use native.Mathlib.Nat.{add-zero}
 use native.Mathlib.Omega.{arith}
 use lib.IntN.{ℤ, pos, natAbs}
-use lib.ListN.{length, set, take, drop, length-append}
+use lib.ListN.{length, getD, set, take, drop, length-append}
 use lib.Seq.{paste}
 use Rattle.std.proofs.shelf.Edits.{paste-none, paste-more, paste-paste}
+use Rattle.std.proofs.shelf.Lists.{length-take-le, take-more}
 use Rattle.std.proofs.shelf.Signed.{ints}
 use Rattle.std.specs.Written.{signed}
-use Rattle.plans.specs.Sheet.{line-text}
+use Rattle.plans.specs.Lines.{blank}
+use Rattle.plans.specs.Sheet.{Legal-line, first-line, line-text, lines-text}
 use Rattle.plans.specs.Text.{text}
 use Rattle.plans.specs.declared.line.Line.{Line}
-use Rattle.plans.proofs.Fields.{length-text, room-small, room-wide}
+use Rattle.plans.proofs.Fields.{length-text, room-small, room-wide, price-small}
+use Rattle.plans.proofs.LinesRead.{lines-push}
 
 pub end-put : (d : List ℕ) (at : ℕ) → at + 1 ≤ length d → set d at 10 ≡ paste d at (10 ∷ []) 1
 end-put d at h =
@@ -57,3 +60,36 @@ line-put d b₁ b₂ b₃ b₄ b₅ at x l inside x-few b-few u-few v-few p₁ p
     let q₄ = put-next d b₃ b₄ at (at + 28) 28 20 ((t₁ ++ t₂) ++ t₃) t₄ q₃ p₄ l₃ (long-wide (l .v) v-few) refl inside in
     let q₅ = put-next d b₄ b₅ at (at + 48) 48 1 (((t₁ ++ t₂) ++ t₃) ++ t₄) (10 ∷ []) q₄ p₅ l₄ refl refl inside in
     q₅ ∙ ap (λ t. paste d at t 49) (simp append-assoc)
+
+pub first-put : (d b₁ b₂ b₃ : List ℕ) (n bill : ℕ) → n ≤ 999 → bill ≤ 2 ^ 62
+    → b₁ ≡ paste d 0 (text 4 (pos n)) 4 → b₂ ≡ paste b₁ 4 (text 20 (pos bill)) 20 → b₃ ≡ paste b₂ 24 (10 ∷ []) 1
+    → b₃ ≡ paste d 0 (first-line n bill) 25
+first-put d b₁ b₂ b₃ n bill n-few b-few p₁ p₂ p₃ =
+    let t₁ = text 4 (pos n) in
+    let t₂ = text 20 (pos bill) in
+    let l₂ : 24 ≡ length (t₁ ++ t₂) = long-next 4 20 t₁ t₂ (long-small n n-few) (long-wide (pos bill) b-few) in
+    let q₂ = put-next d b₁ b₂ 0 4 4 20 t₁ t₂ p₁ p₂ (long-small n n-few) (long-wide (pos bill) b-few) refl (omega arith) in
+    let q₃ = put-next d b₂ b₃ 0 24 24 1 (t₁ ++ t₂) (10 ∷ []) q₂ p₃ l₂ refl refl (omega arith) in
+    q₃ ∙ ap (λ t. paste d 0 t 25) (simp append-assoc)
+
+long-line : (x : ℕ) (l : Line) → x ≤ 999 → l .board ≤ 999 → natAbs (l .u) ≤ 2 ^ 62 → natAbs (l .v) ≤ 2 ^ 62 → 49 ≡ length (line-text x l)
+long-line x l x-few b-few u-few v-few =
+    long-next 4 45 _ _ (long-small x x-few)
+    (long-next 4 41 _ _ (long-small (l .board) b-few) (long-next 20 21 _ _ (long-wide (l .u) u-few) (long-next 20 1 _ _ (long-wide (l .v) v-few) refl)))
+
+-- one line more
+pub lines-put : (d b c : List ℕ) (n x : ℕ) (lines : List Line) → 25 ≤ length d → x < n → n ≤ 16 → length lines ≡ 16 → Legal-line n (getD lines x blank)
+    → b ≡ paste d 25 (lines-text 0 (take x lines)) (49 * x) → 49 * x ≡ length (lines-text 0 (take x lines))
+    → c ≡ paste b (25 + 49 * x) (line-text x (getD lines x blank)) 49
+    → (c ≡ paste d 25 (lines-text 0 (take (x + 1) lines)) (49 * (x + 1))) × (49 * (x + 1) ≡ length (lines-text 0 (take (x + 1) lines)))
+lines-put d b c n x lines inside x-few n-few sized legal p l q =
+    let line = getD lines x blank in
+    let here : x < length lines = omega arith in
+    let one : 49 ≡ length (line-text x line) = long-line x line (omega arith) (omega (arith, legal .0)) (price-small (line .u) (legal .1)) (price-small (line .v) (legal .2)) in
+    let size : 49 * x + 49 ≡ 49 * (x + 1) = omega arith in
+    let more : lines-text 0 (take x lines) ++ line-text x line ≡ lines-text 0 (take (x + 1) lines) =
+      sym (ap (lines-text 0) (take-more lines x blank here) ∙ lines-push 0 (take x lines) line x (omega (arith, length-take-le x lines (omega arith)))) in
+    let next = put-next d b c 25 (25 + 49 * x) (49 * x) 49 (lines-text 0 (take x lines)) (line-text x line) p q l one refl inside in
+    let long = long-next (49 * x) 49 (lines-text 0 (take x lines)) (line-text x line) l one in
+    (next ∙ ap (λ t. paste d 25 t (49 * x + 49)) more ∙ ap (paste d 25 (lines-text 0 (take (x + 1) lines))) size,
+     sym size ∙ long ∙ ap length more)

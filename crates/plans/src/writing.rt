@@ -1,17 +1,18 @@
 // Writing a sheet.
 ghost use mathlib.Core.List.{[], _∷_};
 ghost use mathlib.Core.Path.{_≡_};
-ghost use Prim.Native.Nat.{_+_, _≤_, _<_, _^_};
+ghost use Prim.Native.Nat.{_+_, _*_, _≤_, _<_, _^_};
 ghost use lib.IntN.{natAbs, pos};
-ghost use lib.ListN.{length};
+ghost use lib.ListN.{length, take};
 ghost use Rattle.std.specs.Written.{signed};
 ghost use Rattle.std.specs.shelf.Lists.{paste};
-ghost use Rattle.plans.specs.Sheet.{Legal-line, line-text, wrong-column};
+ghost use Rattle.plans.specs.Sheet.{Legal, Legal-line, first-line, line-text, lines-text, sheet-length, wrong-column};
 ghost use Rattle.plans.specs.Text.{text};
 use crate::limits::BILL;
 use crate::limits::PRICE;
 use crate::line::Line;
 use crate::numeral::numeral;
+use crate::plan::Plan;
 
 // The column of the line's first number that is beyond its limits.
 fn wrong(line: &Line, boards: usize) -> Option<usize>
@@ -71,4 +72,25 @@ fn put_line(buffer: &mut [u8], at: usize, x: usize, line: &Line)
     put_wide(buffer, at + 8, line.u);
     put_wide(buffer, at + 28, line.v);
     put_end(buffer, at + 48);
+}
+
+// Puts the first line.
+fn put_first(buffer: &mut [u8], boards: usize, bill: u64)
+    requires { ⌜ (25 ≤ length (now buffer)) × (boards ≤ 16) × (bill ≤ 281474976710656) ⌝ }
+    ensures { λ _. ⌜ now (buffer .exit) ≡ paste (now (buffer .entry)) 0 (first-line boards bill) 25 ⌝ }
+{
+    put_small(buffer, 0, boards);
+    put_wide(buffer, 4, bill as i64);
+    put_end(buffer, 24);
+}
+
+// Puts the lines after the first.
+fn put_lines(buffer: &mut [u8], plan: &Plan)
+    requires { ⌜ Legal (now plan) × (sheet-length (now plan .boards) ≤ length (now buffer)) ⌝ }
+    ensures after { λ _. ⌜ now (buffer .exit) ≡ paste (now (buffer .entry)) 25 (lines-text 0 (take (now (plan .entry) .boards) (now (plan .entry) .lines))) (49 * now (plan .entry) .boards) ⌝ }
+    ensures len { λ _. ⌜ 49 * now (plan .entry) .boards ≡ length (lines-text 0 (take (now (plan .entry) .boards) (now (plan .entry) .lines))) ⌝ }
+{
+    for x in 0..plan.boards {
+        put_line(buffer, 25 + 49 * x, x, &plan.lines[x]);
+    }
 }
