@@ -2,19 +2,20 @@
 use mathlib.Core.List.{List, [], _∷_, _++_, append-assoc}
 use mathlib.Core.Path.{_≡_, refl, sym, ap, subst, _∙_}
 use Prim.Native.Nat.{ℕ, zero, suc, _+_, _-_, _*_, _^_, _≤_, _<_}
-use native.Mathlib.Nat.{add-zero}
+use native.Mathlib.Nat.{add-zero, zero-add}
 use native.Mathlib.Omega.{arith}
 use lib.IntN.{ℤ, pos, natAbs}
 use lib.ListN.{length, getD, set, take, drop, length-append}
 use lib.Seq.{paste}
-use Rattle.std.proofs.shelf.Edits.{paste-none, paste-more, paste-paste}
+use Rattle.std.proofs.shelf.Edits.{paste-none, paste-more, paste-paste, paste-all}
 use Rattle.std.proofs.shelf.Lists.{length-take-le, take-more}
 use Rattle.std.proofs.shelf.Signed.{ints}
 use Rattle.std.specs.Written.{signed}
 use Rattle.plans.specs.Lines.{blank}
-use Rattle.plans.specs.Sheet.{Legal-line, first-line, line-text, lines-text}
+use Rattle.plans.specs.Sheet.{Legal, Legal-line, first-line, line-text, lines-text, sheet, sheet-length}
 use Rattle.plans.specs.Text.{text}
 use Rattle.plans.specs.declared.line.Line.{Line}
+use Rattle.plans.specs.declared.plan.Plan.{Plan}
 use Rattle.plans.proofs.Fields.{length-text, room-small, room-wide, price-small}
 use Rattle.plans.proofs.LinesRead.{lines-push}
 
@@ -88,8 +89,25 @@ lines-put d b c n x lines inside x-few n-few sized legal p l q =
     let one : 49 ≡ length (line-text x line) = long-line x line (omega arith) (omega (arith, legal .0)) (price-small (line .u) (legal .1)) (price-small (line .v) (legal .2)) in
     let size : 49 * x + 49 ≡ 49 * (x + 1) = omega arith in
     let more : lines-text 0 (take x lines) ++ line-text x line ≡ lines-text 0 (take (x + 1) lines) =
-      sym (ap (lines-text 0) (take-more lines x blank here) ∙ lines-push 0 (take x lines) line x (omega (arith, length-take-le x lines (omega arith)))) in
+    sym (ap (lines-text 0) (take-more lines x blank here) ∙ lines-push 0 (take x lines) line x (omega (arith, length-take-le x lines (omega arith)))) in
     let next = put-next d b c 25 (25 + 49 * x) (49 * x) 49 (lines-text 0 (take x lines)) (line-text x line) p q l one refl inside in
-    let long = long-next (49 * x) 49 (lines-text 0 (take x lines)) (line-text x line) l one in
-    (next ∙ ap (λ t. paste d 25 t (49 * x + 49)) more ∙ ap (paste d 25 (lines-text 0 (take (x + 1) lines))) size,
-     sym size ∙ long ∙ ap length more)
+    let long = long-next (49 * x) 49 (lines-text 0 (take x lines)) (line-text x line) l one in (
+      next ∙ ap (λ t. paste d 25 t (49 * x + 49)) more ∙ ap (paste d 25 (lines-text 0 (take (x + 1) lines))) size,
+      sym size ∙ long ∙ ap length more,
+    )
+
+-- the first line and the others make the sheet, and what follows it is as before
+pub sheet-put : (d b c : List ℕ) (p : Plan) → Legal p → b ≡ paste d 0 (first-line (p .boards) (p .bill)) 25
+    → c ≡ paste b 25 (lines-text 0 (take (p .boards) (p .lines))) (49 * p .boards)
+    → 49 * p .boards ≡ length (lines-text 0 (take (p .boards) (p .lines)))
+    → c ≡ sheet p ++ drop (sheet-length (p .boards)) d
+unfolding sheet
+sheet-put d b c p legal p₁ p₂ long =
+    let first = first-line (p .boards) (p .bill) in
+    let lines = lines-text 0 (take (p .boards) (p .lines)) in
+    let l₁ : 25 ≡ length first = long-next 4 21 _ _ (long-small (p .boards) (omega (arith, legal .few)))
+    (long-next 20 1 _ _ (long-wide (pos (p .bill)) (omega (arith, legal .bill))) refl) in
+    let whole : sheet-length (p .boards) ≡ length (first ++ lines) = long-next 25 (49 * p .boards) first lines l₁ long in
+    put-next d b c 0 25 25 (49 * p .boards) first lines p₁ p₂ l₁ long refl (omega arith)
+    ∙ paste-all d 0 (first ++ lines) (sheet-length (p .boards)) whole
+    ∙ ap (λ i. (first ++ lines) ++ drop i d) (zero-add (sheet-length (p .boards)))

@@ -168,3 +168,9 @@ write-refusal p k =
     cond (leb 1 (p .boards) && leb (p .boards) 16)
     (cond (leb (sheet-length (p .boards)) k) (wrong-number p) (Some (Length (sheet-length (p .boards)))))
     (Some (Board (p .boards)))
+
+-- k bytes of the buffer hold the sheet of p now, and the rest is as it was
+pub record Written (p : Plan) (before : List ℕ) (k : ℕ) (after : List ℕ) : Type 0 where
+  pub legal : Legal p
+  pub len : k ≡ sheet-length (p .boards)
+  pub is : after ≡ sheet p ++ drop k before

@@ -6,13 +6,21 @@ ghost use lib.IntN.{natAbs, pos};
 ghost use lib.ListN.{length, take};
 ghost use Rattle.std.specs.Written.{signed};
 ghost use Rattle.std.specs.shelf.Lists.{paste};
-ghost use Rattle.plans.specs.Sheet.{Legal, Legal-line, first-line, line-text, lines-text, sheet-length, wrong-column};
+ghost use Rattle.faults.specs.Answers.{Answers};
+ghost use Rattle.faults.specs.declared.fault.Call.{Call};
+ghost use Rattle.faults.specs.declared.fault.Layer.{Layer};
+ghost use Rattle.plans.specs.Sheet.{Legal, Legal-line, first-line, line-text, lines-text, sheet-length, wrong-column, wrong-line, write-refusal, Written};
 ghost use Rattle.plans.specs.Text.{text};
 use crate::limits::BILL;
 use crate::limits::PRICE;
 use crate::line::Line;
 use crate::numeral::numeral;
+use crate::plan::BOARDS;
 use crate::plan::Plan;
+use faults::Call;
+use faults::Cause;
+use faults::Fault;
+use faults::Layer;
 
 // The column of the line's first number that is beyond its limits.
 fn wrong(line: &Line, boards: usize) -> Option<usize>
@@ -27,6 +35,40 @@ fn wrong(line: &Line, boards: usize) -> Option<usize>
     } else {
         None
     }
+}
+
+// The field of the first number beyond its limits in the lines.
+fn wrong_line(plan: &Plan) -> Option<Cause>
+    requires { ⌜ now plan .boards ≤ 16 ⌝ }
+    ensures { λ r. ⌜ r ≡ wrong-line (now (plan .entry) .boards) 0 (take (now (plan .entry) .boards) (now (plan .entry) .lines)) ⌝ }
+{
+    for x in 0..plan.boards {
+        if let Some(column) = wrong(&plan.lines[x], plan.boards) {
+            return Some(Cause::Field {
+                line: x + 2,
+                column,
+            });
+        }
+    }
+    None
+}
+
+// Why the plan is not written to so many bytes.
+fn refusal(plan: &Plan, room: usize) -> Option<Cause>
+    ensures { λ r. ⌜ r ≡ write-refusal (now (plan .entry)) room ⌝ }
+{
+    let boards = plan.boards;
+    if boards < 1 || BOARDS < boards {
+        return Some(Cause::Board { number: boards });
+    }
+    let due = 25 + 49 * boards;
+    if room < due {
+        return Some(Cause::Length { due });
+    }
+    if plan.bill > BILL as u64 {
+        return Some(Cause::Field { line: 1, column: 5 });
+    }
+    wrong_line(plan)
 }
 
 // Puts a number's text into the `width` columns at `at`.
@@ -92,5 +134,23 @@ fn put_lines(buffer: &mut [u8], plan: &Plan)
 {
     for x in 0..plan.boards {
         put_line(buffer, 25 + 49 * x, x, &plan.lines[x]);
+    }
+}
+
+impl Plan {
+    // Writes the plan's sheet to the front of the buffer, and answers its length.
+    pub fn write(&self, buffer: &mut [u8]) -> Result<usize, Fault>
+        ensures { λ r. ⌜ Answers Layer.Plans Call.Write (write-refusal (now (self .entry)) (length (now (buffer .entry)))) r (λ k. Written (now (self .entry)) (now (buffer .entry)) k (now (buffer .exit))) (now (buffer .exit) ≡ now (buffer .entry)) ⌝ }
+    {
+        if let Some(cause) = refusal(self, buffer.len()) {
+            return Err(Fault {
+                layer: Layer::Plans,
+                call: Call::Write,
+                cause,
+            });
+        }
+        put_first(buffer, self.boards, self.bill);
+        put_lines(buffer, self);
+        Ok(25 + 49 * self.boards)
     }
 }

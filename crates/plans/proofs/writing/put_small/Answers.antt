@@ -9,6 +9,9 @@ use Rattle.plans.proofs.writing.put_small.Needs as need
 
 pub put-requires : need.put-requires
 put-requires c κs =
-    let e : toZ w64 (c .args .n) ≡ pos (c .args .n) = toZ-pos w64 (c .args .n) (omega arith) in
-    (omega arith, c .pre .0, rw e (omega arith),
-     rw e (room-small (c .args .n) (c .args .n) (c .pre .1) (pos (c .args .n)) (omega (arith, ints)) (omega (arith, ints))))
+    let e : toZ w64 (c .args .n) ≡ pos (c .args .n) = toZ-pos w64 (c .args .n) (omega arith) in (
+      omega arith,
+      c .pre .0,
+      rw e (omega arith),
+      rw e (room-small (c .args .n) (c .args .n) (c .pre .1) (pos (c .args .n)) (omega (arith, ints)) (omega (arith, ints))),
+    )
