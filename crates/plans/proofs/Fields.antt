@@ -94,7 +94,7 @@ within-far : (lo hi : ℤ) (s : ℕ) (b : Bool) → natAbs lo ≤ 2 ^ 62 → nat
 within-far lo hi s true l h far = and-left (leZ lo (negℤ (pos s))) (leZ (negℤ (pos s)) hi) (below lo s l far)
 within-far lo hi s false l h far = and-right (leZ lo (pos s)) (leZ (pos s) hi) (above hi s h far)
 
-within-from : (lo hi z : ℤ) → within lo hi z ≡ true → (lo ≤ℤ z) × (z ≤ℤ hi)
+pub within-from : (lo hi z : ℤ) → within lo hi z ≡ true → (lo ≤ℤ z) × (z ≤ℤ hi)
 within-from lo hi z e =
     let both = and-parts (leZ lo z) (leZ z hi) e in (grind (arith, ints), grind (arith, ints))
 

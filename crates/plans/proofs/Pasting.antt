@@ -73,7 +73,7 @@ first-put d b₁ b₂ b₃ n bill n-few b-few p₁ p₂ p₃ =
     let q₃ = put-next d b₂ b₃ 0 24 24 1 (t₁ ++ t₂) (10 ∷ []) q₂ p₃ l₂ refl refl (omega arith) in
     q₃ ∙ ap (λ t. paste d 0 t 25) (simp append-assoc)
 
-long-line : (x : ℕ) (l : Line) → x ≤ 999 → l .board ≤ 999 → natAbs (l .u) ≤ 2 ^ 62 → natAbs (l .v) ≤ 2 ^ 62 → 49 ≡ length (line-text x l)
+pub long-line : (x : ℕ) (l : Line) → x ≤ 999 → l .board ≤ 999 → natAbs (l .u) ≤ 2 ^ 62 → natAbs (l .v) ≤ 2 ^ 62 → 49 ≡ length (line-text x l)
 long-line x l x-few b-few u-few v-few =
     long-next 4 45 _ _ (long-small x x-few)
     (long-next 4 41 _ _ (long-small (l .board) b-few) (long-next 20 21 _ _ (long-wide (l .u) u-few) (long-next 20 1 _ _ (long-wide (l .v) v-few) refl)))
