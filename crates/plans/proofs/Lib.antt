@@ -1,3 +1,4 @@
+pub mod BackAgain
 pub mod Fields
 pub mod LineFields
 pub mod LinesRead

@@ -25,8 +25,9 @@ dashed-append : (xs ys : List ℕ) → dashed xs ≡ false → dashed (xs ++ ys)
 dashed-append [] ys e = refl
 dashed-append (x ∷ xs) ys e =
     elim (cases-bool (eqb x 45)) [
-      inl t ↦ absurd (both-ways (eqb x 45 || dashed xs) e (or-left (eqb x 45) (dashed xs) t))
-    | inr f ↦ ap (λ b. b || dashed (xs ++ ys)) f ∙ dashed-append xs ys (sym (ap (λ b. b || dashed xs) f) ∙ e) ]
+      | inl t ↦ absurd (both-ways (eqb x 45 || dashed xs) e (or-left (eqb x 45) (dashed xs) t))
+      | inr f ↦ ap (λ b. b || dashed (xs ++ ys)) f ∙ dashed-append xs ys (sym (ap (λ b. b || dashed xs) f) ∙ e)
+    ]
 
 spelled-blanks : (acc k : ℕ) (t : List ℕ) → spelled acc (replicate k 32 ++ t) ≡ spelled acc t
 spelled-blanks acc zero t = refl
@@ -48,9 +49,10 @@ decimal-spells : (n : ℕ) → n < 2 ^ 64 → (spelled 0 (decimal n) ≡ n) × (
 decimal-spells =
     decimal-by-steps (λ n ds. (spelled 0 ds ≡ n) × (dashed ds ≡ false))
     (λ n l. (digit-adds 0 n l ∙ (let s : 10 * 0 + n ≡ n = omega arith in s), digit-plain n l))
-    (λ n ds l r.
-      (spelled-append ds _ 0 ∙ ap (λ a. spelled a ((48 + n % 10) ∷ [])) (r .0) ∙ digit-adds (n / 10) (n % 10) (omega arith) ∙ (let s : 10 * (n / 10) + n % 10 ≡ n = omega arith in s),
-       dashed-append ds _ (r .1) ∙ digit-plain (n % 10) (omega arith)))
+    (λ n ds l r. (
+      spelled-append ds _ 0 ∙ ap (λ a. spelled a ((48 + n % 10) ∷ [])) (r .0) ∙ digit-adds (n / 10) (n % 10) (omega arith) ∙ (let s : 10 * (n / 10) + n % 10 ≡ n = omega arith in s),
+      dashed-append ds _ (r .1) ∙ digit-plain (n % 10) (omega arith),
+    ))
 
 pub meant-text : (w : ℕ) (z : ℤ) → natAbs z ≤ 2 ^ 62 → meant (text w z) ≡ z
 unfolding text

@@ -65,7 +65,7 @@ same-lines (l ∷ ls) (m ∷ ms) x n few inside long legal-l legal-m e =
     let l₀ = legal-l 0 (omega arith) in
     let m₀ = legal-m 0 (omega arith) in
     let both = same-fronts (line-text x l) (line-text x m) (lines-text (x + 1) ls) (lines-text (x + 1) ms) 49
-      (long-l x n l m x-few few l₀ m₀) (long-m x n l m x-few few l₀ m₀) e in
+    (long-l x n l m x-few few l₀ m₀) (long-m x n l m x-few few l₀ m₀) e in
     let head = same-line x n l m x-few few l₀ m₀ (both .0) in
     let tail = same-lines ls ms (x + 1) n few (omega arith) (omega arith) (λ k h. legal-l (suc k) (omega arith)) (λ k h. legal-m (suc k) (omega arith)) (both .1) in
     λ i. head i ∷ tail i
@@ -76,9 +76,12 @@ line-set = coded-set (the-row .coded)
 same-plan : (p q : Plan) → p .boards ≡ q .boards → p .bill ≡ q .bill → p .lines ≡ q .lines → p ≡ q
 same-plan p q b c l =
     λ i. record {
-      boards = b i; bill = c i; lines = l i;
+      boards = b i;
+      bill = c i;
+      lines = l i;
       sized = isProp→PathP (λ j. length (l j) ≡ 16) (λ j. ℕ-set _ _) (p .sized) (q .sized) i;
-      rest = isProp→PathP (λ j. (x : ℕ) → b j ≤ x → getD (l j) x blank ≡ blank) (λ j. Π-prop (λ x. →-prop (line-set _ _))) (p .rest) (q .rest) i }
+      rest = isProp→PathP (λ j. (x : ℕ) → b j ≤ x → getD (l j) x blank ≡ blank) (λ j. Π-prop (λ x. →-prop (line-set _ _))) (p .rest) (q .rest) i;
+    }
 
 module _ (p q : Plan) (legal-p : Legal p) (legal-q : Legal q) (e : sheet p ≡ sheet q) where
   long-first : (r : Plan) → Legal r → 25 ≡ length (first-line (r .boards) (r .bill))
@@ -113,9 +116,10 @@ module _ (p q : Plan) (legal-p : Legal p) (legal-q : Legal q) (e : sheet p ≡ s
   line-same : (k : ℕ) → k < 16 → getD (p .lines) k blank ≡ getD (q .lines) k blank
   line-same k h =
       elim (cases-lt k (p .boards)) [
-        inl l ↦
-          sym (getD-take (p .boards) (p .lines) k blank l) ∙ ap (λ t. getD t k blank) own-same ∙ getD-take (q .boards) (q .lines) k blank (subst (λ n. k < n) same-boards l)
-      | inr l ↦ p .rest k l ∙ sym (q .rest k (subst (λ n. n ≤ k) same-boards l)) ]
+        | inl l ↦
+            sym (getD-take (p .boards) (p .lines) k blank l) ∙ ap (λ t. getD t k blank) own-same ∙ getD-take (q .boards) (q .lines) k blank (subst (λ n. k < n) same-boards l)
+        | inr l ↦ p .rest k l ∙ sym (q .rest k (subst (λ n. n ≤ k) same-boards l))
+      ]
 
   same-sheet : p ≡ q
   same-sheet =

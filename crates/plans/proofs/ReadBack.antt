@@ -37,7 +37,8 @@ stands bs pre t rest at w e l m =
     record {
       here = ap (λ x. take w (drop at x)) e ∙ ap (take w) (drop-at pre (t ++ rest) at l) ∙ take-at t rest w (sym m);
       next = e ∙ sym (append-assoc pre t rest);
-      long = omega (arith, length-append pre t) }
+      long = omega (arith, length-append pre t);
+    }
 
 module _ (n x : ℕ) (l : Line) (x-few : x ≤ 999) (n-some : 1 ≤ n) (n-few : n ≤ 16) (legal : Legal-line n l) where
   b-few : l .board ≤ 999
@@ -66,7 +67,7 @@ module _ (n x : ℕ) (l : Line) (x-few : x ≤ 999) (n-some : 1 ≤ n) (n-few : 
       line-stands bs n x l x
       (sym (ap (reads 4 (pos x) (pos x)) (s₁ .here) ∙ reads-back 4 (pos x) (pos x) (pos x) (omega arith) (omega (arith, ints)) (omega (arith, ints))))
       (sym (ap (reads 4 (pos 0) (last-board n)) (s₂ .here)
-            ∙ reads-back 4 (pos 0) (last-board n) (pos (l .board)) (omega (arith, b-few)) (omega (arith, ints)) (let h : l .board ≤ n - 1 = omega (arith, legal .0) in omega (arith, ints))))
+      ∙ reads-back 4 (pos 0) (last-board n) (pos (l .board)) (omega (arith, b-few)) (omega (arith, ints)) (let h : l .board ≤ n - 1 = omega (arith, legal .0) in omega (arith, ints))))
       (sym (ap (reads 20 price-low price-high) (s₃ .here) ∙ reads-back 20 price-low price-high (l .u) u-few (u .0) (u .1)))
       (sym (ap (reads 20 price-low price-high) (s₄ .here) ∙ reads-back 20 price-low price-high (l .v) v-few (v .0) (v .1)))
       (sym (sameBytes-decides (10 ∷ []) (part bs (at + 48) 1) .1 (sym (s₅ .here))))
@@ -134,9 +135,30 @@ module _ (p : Plan) (legal : Legal p) where
       let body = lines-stand-back (take (p .boards) (p .lines)) (sheet p) ((([] ++ t₁) ++ t₂) ++ (10 ∷ [])) [] n 0 (legal .some) (legal .few) inside own-legal (s₃ .next) (s₃ .long) in
       let body-n : first-illegal (sheet p) (lines-fields n 0 n) ≡ None = ap (λ k. first-illegal (sheet p) (lines-fields n 0 k)) (sym own-long) ∙ body in
       let size : length (sheet p) ≤ sheet-length n =
-        omega (arith, ap length (s₃ .next), length-append ((([] ++ t₁) ++ t₂) ++ (10 ∷ [])) (lines ++ []), ap length (append-nil lines), s₃ .long,
-               long-lines (take (p .boards) (p .lines)) n 0 (legal .some) (legal .few) inside own-legal, own-long) in
+      omega (
+        arith,
+        ap length (s₃ .next),
+        length-append ((([] ++ t₁) ++ t₂) ++ (10 ∷ [])) (lines ++ []),
+        ap length (append-nil lines),
+        s₃ .long,
+        long-lines (take (p .boards) (p .lines)) n 0 (legal .some) (legal .few) inside own-legal,
+        own-long,
+      ) in
       all-stand (sheet p) n (sym count) (pos (p .bill)) (sym bill) (sym ends) body-n size
 
 pub sheets-read-back : Sheets-read-back
 sheets-read-back p legal = sheet-read-back p legal
+
+pub sheet-long : (p : Plan) → Legal p → length (sheet p) ≡ sheet-length (p .boards)
+unfolding sheet own-lines
+sheet-long p legal =
+    let inside : 0 + length (take (p .boards) (p .lines)) ≤ 16 = omega (arith, own-long p legal, legal .few) in
+    let first : 25 ≡ length (first-line (p .boards) (p .bill)) =
+    long-next 4 21 _ _ (long-small (p .boards) (omega (arith, legal .few))) (long-next 20 1 _ _ (long-wide (pos (p .bill)) (omega (arith, legal .bill))) refl) in
+    omega (
+      arith,
+      length-append (first-line (p .boards) (p .bill)) (lines-text 0 (take (p .boards) (p .lines))),
+      first,
+      long-lines (take (p .boards) (p .lines)) (p .boards) 0 (legal .some) (legal .few) inside (own-legal p legal),
+      own-long p legal,
+    )

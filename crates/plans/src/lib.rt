@@ -1,6 +1,7 @@
 // Plans, which name a board for each role and price both, and the sheets that they are written as.
 mod columns;
 mod field;
+pub mod laws;
 pub mod limits;
 pub mod line;
 mod numeral;
