@@ -6,6 +6,7 @@ use native.Mathlib.Nat.{sub-zero}
 use native.Mathlib.Omega.{arith}
 use lib.ListN.{length, take, drop}
 use Rattle.std.proofs.shelf.Lists.{take-at}
+use Rattle.std.specs.Vec.{made}
 use Rattle.std.specs.declared.option.Option.the-variants.{None, Some}
 use Rattle.std.specs.declared.result.Result.{Result}
 use Rattle.std.specs.declared.result.Result.the-variants.{Ok, Err}
@@ -19,7 +20,7 @@ use Rattle.plans.specs.Sheet.{Legal, Sheet-of, Written, read-refusal, sheet, s
 use Rattle.plans.specs.declared.plan.Plan.{Plan}
 use Rattle.plans.proofs.OneSheet.{sheets-are-one}
 use Rattle.plans.proofs.ReadBack.{sheet-long, sheet-read-back}
-use Rattle.plans.proofs.Refusals.{no-cause}
+use Rattle.plans.proofs.Refusals.{no-cause, none-from-legal}
 
 module _ (p : Plan) (before after : List ℕ) (k : ℕ) (written : Written p before k after) where
   pub front-is : take (k - 0) after ≡ sheet p
@@ -34,3 +35,19 @@ module _ (p : Plan) (before after : List ℕ) (k : ℕ) (written : Written p bef
       (none, (sheets-are-one q p bs sheet-is (record { legal = written .legal; is = is }), subst (λ i. Written p before i after) (written .len) written))
   back-again bs (Err f) none is (refused, layer, call, same) =
       absurd (no-cause (f .cause) (sym refused ∙ ap read-refusal is ∙ sheet-read-back p (written .legal)))
+
+-- what is read is written as it was
+pub echoed : (p : Plan) (bs before after : List ℕ) (r : Result ℕ Fault) → length before ≡ 809 → read-refusal bs ≡ None → Sheet-of p bs
+    → Answers Plans Write (write-refusal p (length before)) r (λ k. Written p before k after) (after ≡ before)
+    → Answers Plans Read (read-refusal bs) r (λ k. (k ≡ length bs) × (after ≡ bs ++ drop k before)) (after ≡ before)
+echoed p bs before after (Ok k) size none sheet-is (accepted, written) = (
+  none,
+  (written .len ∙ sym (ap length (sheet-is .is) ∙ sheet-long p (sheet-is .legal)), written .is ∙ ap (λ t. t ++ drop k before) (sym (sheet-is .is))),
+)
+echoed p bs before after (Err f) size none sheet-is (refused, layer, call, same) =
+    absurd (no-cause (f .cause) (sym refused ∙ none-from-legal p (length before) (sheet-is .legal) (omega (arith, sheet-is .legal .few))))
+
+pub echo-bound : (p : Plan) (before after : List ℕ) (r : Result ℕ Fault)
+    → Answers Plans Write (write-refusal p (length before)) r (λ k. Written p before k after) (after ≡ before) → made r (λ k. k ≤ 809)
+echo-bound p before after (Ok k) (accepted, written) = omega (arith, written .len, written .legal .few)
+echo-bound p before after (Err f) refused = tt

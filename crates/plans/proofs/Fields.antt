@@ -19,16 +19,21 @@ use Rattle.std.specs.declared.option.Option.{Option}
 use Rattle.std.specs.declared.option.Option.the-variants.{None, Some}
 use Rattle.std.specs.shelf.Text.{sameBytes}
 use Rattle.plans.specs.Sheet.{part, price-low, price-high}
-use Rattle.plans.specs.Text.{text, spelled, dashed, meant, within, reads, Reads}
+use Rattle.plans.specs.Text.{padded, text, spelled, dashed, meant, within, reads, Reads}
 
 -- a text in fewer columns is the end of the text in twenty
+gap : (a w : ℕ) → a ≤ w → w ≤ 20 → 20 - a - (20 - w) ≡ w - a
+gap a w room le = omega arith
+
+padded-narrow : (w : ℕ) (t : List ℕ) → w ≤ 20 → length t ≤ w → drop (20 - w) (padded 20 t) ≡ padded w t
+padded-narrow w t le room =
+    let l : 20 - w ≤ length (replicate {A = ℕ} (20 - length t) 32) = simp length-replicate (omega arith) in
+    drop-append-le (20 - w) (replicate (20 - length t) 32) t l
+    ∙ ap (λ b. b ++ t) (drop-replicate (20 - w) (20 - length t) 32 ∙ ap (λ i. replicate i 32) (gap (length t) w room le))
+
 pub text-narrow : (w : ℕ) (z : ℤ) → w ≤ 20 → length (signed z) ≤ w → drop (20 - w) (text 20 z) ≡ text w z
 unfolding text
-text-narrow w z le room =
-    let l : 20 - w ≤ length (replicate {A = ℕ} (20 - length (signed z)) 32) = simp length-replicate (omega arith) in
-    let n : 20 - length (signed z) - (20 - w) ≡ w - length (signed z) = omega arith in
-    drop-append-le (20 - w) (replicate (20 - length (signed z)) 32) (signed z) l
-    ∙ ap (λ t. t ++ signed z) (drop-replicate (20 - w) (20 - length (signed z)) 32 ∙ ap (λ i. replicate i 32) n)
+text-narrow w z le room = padded-narrow w (signed z) le room
 
 pub length-text : (w : ℕ) (z : ℤ) → length (signed z) ≤ w → length (text w z) ≡ w
 unfolding text

@@ -90,3 +90,26 @@ legal-from-none p k e =
       },
       leb-true (sheet-length n) k (b .0),
     )
+
+legal-column : (n : ℕ) (l : Line) → Legal-line n l → wrong-column n l ≡ None
+legal-column n l legal = rw (lt-ltb (l .board) n (legal .0), legal .1, legal .2) refl
+
+legal-lines-none : (n x : ℕ) (ls : List Line) → ((k : ℕ) → k < length ls → Legal-line n (getD ls k blank)) → wrong-line n x ls ≡ None
+legal-lines-none n x [] legal = refl
+legal-lines-none n x (l ∷ ls) legal =
+    ap (λ o. wrong-or x o (wrong-line n (x + 1) ls)) (legal-column n l (legal 0 (omega arith)))
+    ∙ legal-lines-none n (x + 1) ls (λ k h. legal (suc k) (omega arith))
+
+-- what is legal and has room is not refused
+pub none-from-legal : (p : Plan) (k : ℕ) → Legal p → sheet-length (p .boards) ≤ k → write-refusal p k ≡ None
+unfolding write-refusal
+none-from-legal p k legal room =
+    let n = p .boards in
+    let long : length (take n (p .lines)) ≡ n = length-take-le n (p .lines) (omega (arith, legal .few, p .sized)) in
+    let count : (leb 1 (p .boards) && leb (p .boards) 16) ≡ true = and-from _ _ (le-leb 1 (p .boards) (legal .some)) (le-leb (p .boards) 16 (legal .few)) in
+    let fits : leb (sheet-length (p .boards)) k ≡ true = le-leb (sheet-length (p .boards)) k room in
+    let bill : leb (p .bill) 281474976710656 ≡ true = le-leb (p .bill) 281474976710656 (legal .bill) in
+    let lines : wrong-line (p .boards) 0 (take (p .boards) (p .lines)) ≡ None =
+    legal-lines-none n 0 (take n (p .lines))
+    (λ x h. let l : x < n = omega arith in subst (Legal-line n) (sym (getD-take n (p .lines) x blank l)) (legal .lines x l)) in
+    rw (count, fits, bill, lines) refl

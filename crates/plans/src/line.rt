@@ -9,3 +9,10 @@ pub struct Line {
     // The price of board x.
     pub v: i64,
 }
+
+// A line that says nothing.
+pub const BLANK: Line = Line {
+    board: 0,
+    u: 0,
+    v: 0,
+};

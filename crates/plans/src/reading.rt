@@ -12,6 +12,7 @@ use crate::columns::small;
 use crate::columns::wide;
 use crate::limits::BILL;
 use crate::limits::PRICE;
+use crate::line::BLANK;
 use crate::line::Line;
 use crate::plan::Plan;
 use faults::Call;
@@ -59,11 +60,7 @@ fn read_lines(bytes: &[u8], boards: usize, bill: u64) -> Result<Plan, Fault>
     requires { ⌜ (1 ≤ boards) × (boards ≤ 16) ⌝ }
     ensures { λ r. ⌜ Cases r (λ p. Lines-read (now (bytes .entry)) boards bill p) (λ f. (first-illegal (now (bytes .entry)) (lines-fields boards 0 boards) ≡ Some (f .cause)) × (f .layer ≡ Layer.Plans) × (f .call ≡ Call.Read)) ⌝ }
 {
-    let mut lines = [Line {
-        board: 0,
-        u: 0,
-        v: 0,
-    }; 16];
+    let mut lines = [BLANK; 16];
     for x in 0..boards {
         lines[x] = read_line(bytes, x, boards)?;
     }

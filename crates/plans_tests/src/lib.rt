@@ -1,0 +1,3 @@
+// Tests of plans and their sheets, at each limit from both sides.
+#[cfg(test)]
+mod tests;
