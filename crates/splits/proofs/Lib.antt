@@ -1,0 +1,4 @@
+pub mod Covering
+pub mod Cutting
+pub mod Owning
+pub mod Rules
