@@ -51,6 +51,12 @@ rises-to size xs c a b h l =
     let s : a + (b - a) ≡ b = omega arith in
     subst (λ n. getD xs a 0 ≤ getD xs n 0) s (climbs size xs c a (b - a) (omega arith))
 
+-- an index within a block is one of the side
+pub in-side : (size : ℕ) (xs : List ℕ) → Cuts size xs → (k i : ℕ) → Within xs k i → i < size
+in-side size xs c k i w =
+    let l : length xs - 1 < length xs = omega (arith, c .long) in
+    omega (arith, rises-to size xs c (k + 1) (length xs - 1) (omega (arith, w .one)) l, w .to, c .last)
+
 -- two blocks that share an index are one
 pub within-one : (size : ℕ) (xs : List ℕ) → Cuts size xs → (j k i : ℕ) → Within xs j i → Within xs k i → j ≡ k
 within-one size xs c j k i v w =
@@ -69,8 +75,8 @@ module _ (size : ℕ) (xs : List ℕ) (i : ℕ) (c : Cuts size xs) (l : i < size
       let q : leb (getD xs (1 + k) 0) i ≡ true = ap (λ y. leb y i) (sym (getD-drop 1 xs k 0)) ∙ p in
       leb-true (getD xs (1 + k) 0) i q
 
-  in-side : covering xs i < spans xs
-  in-side =
+  one-of : covering xs i < spans xs
+  one-of =
       elim (cases-eq (covering xs i) (spans xs)) [
         | inl e ↦
             (let s : 1 + (spans xs - 1) ≡ length xs - 1 = omega (arith, c .long) in
@@ -88,13 +94,13 @@ module _ (size : ℕ) (xs : List ℕ) (i : ℕ) (c : Cuts size xs) (l : i < size
 
   stays : i < getD xs (covering xs i + 1) 0
   stays =
-      let p = stops (λ x. leb x i) (drop 1 xs) (omega (arith, in-side, length-drop 1 xs)) in
+      let p = stops (λ x. leb x i) (drop 1 xs) (omega (arith, one-of, length-drop 1 xs)) in
       let s : 1 + covering xs i ≡ covering xs i + 1 = omega arith in
       let q : leb (getD xs (1 + covering xs i) 0) i ≡ false = ap (λ y. leb y i) (sym (getD-drop 1 xs (covering xs i) 0)) ∙ p in
       leb-false (getD xs (covering xs i + 1) 0) i (subst (λ m. leb (getD xs m 0) i ≡ false) s q)
 
   pub within : Within xs (covering xs i) i
-  within = record { one = in-side; from = starts (covering xs i) refl; to = stays }
+  within = record { one = one-of; from = starts (covering xs i) refl; to = stays }
 
 pub covered : Covered
 covered size xs i c l =

@@ -1,2 +1,5 @@
+pub mod Blocks
+pub mod Laws
 pub mod Owners
+pub mod Places
 pub mod Splits

@@ -1,0 +1,22 @@
+// The laws of blocks and places, which layouts, their overlay and every run rest on.
+ghost use Rattle.splits.specs.Laws.{Apart, Covered-once, Filled, In-parts, Stepped, Whole};
+
+// Names the laws of blocks: each element has exactly one, and all together have the matrix's elements.
+// It answers true.
+pub fn blocks_stand() -> bool
+    ensures once { λ _. ⌜ Covered-once ⌝ }
+    ensures whole { λ _. ⌜ Whole ⌝ }
+{
+    true
+}
+
+// Names the laws of places under any naming of the owners: each element's place is in its owner's part of
+// the bank, no two are alike, and inside a block they go by equal steps. It answers true.
+pub fn places_stand() -> bool
+    ensures filled { λ _. ⌜ Filled ⌝ }
+    ensures parts { λ _. ⌜ In-parts ⌝ }
+    ensures apart { λ _. ⌜ Apart ⌝ }
+    ensures stepped { λ _. ⌜ Stepped ⌝ }
+{
+    true
+}
