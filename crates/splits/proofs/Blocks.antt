@@ -2,12 +2,12 @@
 use mathlib.Core.Path.{_≡_, refl, sym, ap, subst, _∙_}
 use Prim.Native.Nat.{ℕ, zero, suc, _+_, _-_, _*_, _/_, _%_, _≤_, _<_}
 use native.Mathlib.Omega.{arith}
-use lib.ListN.{getD}
+use lib.ListN.{length, getD}
 use Rattle.std.proofs.shelf.Bits.{mul-add-lt, div-mul-add, mod-mul-add, div-below, mod-below, div-add-mod'}
 use Rattle.splits.specs.Splits.{Cuts, Within, spans, covering}
-use Rattle.splits.specs.Blocks.{Grid, Sound, Covers, blocks, row-blocks, column-blocks, row-of, column-of, cover}
+use Rattle.splits.specs.Blocks.{Grid, Sound, Covers, blocks, row-blocks, column-blocks, row-of, column-of, top, bottom, left, right, cover}
 use Rattle.splits.specs.Laws.{Covered-once}
-use Rattle.splits.proofs.Covering.{in-side, within, within-one}
+use Rattle.splits.proofs.Covering.{in-side, rises-to, within, within-one}
 
 module _ (n rows columns : ℕ) (g : Grid) (s : Sound n rows columns g) where
   -- the row and the column of blocks of a block that is numbered from them
@@ -59,6 +59,30 @@ module _ (n rows columns : ℕ) (g : Grid) (s : Sound n rows columns g) where
       let e = within-one rows (g .row-cuts) (s .row-side) (row-of g b) (covering (g .row-cuts) r) r (rows-within b r c v) (within rows (g .row-cuts) r (s .row-side) (m .0)) in
       let f = within-one columns (g .column-cuts) (s .column-side) (column-of g b) (covering (g .column-cuts) c) c (columns-within b r c v) (within columns (g .column-cuts) c (s .column-side) (m .1)) in
       sym (div-add-mod' b (column-blocks g)) ∙ (ap (λ x. x * column-blocks g + column-of g b) e ∙ ap (λ x. covering (g .row-cuts) r * column-blocks g + x) f)
+
+  -- where a block's splits stand in their lists, and how they lie to each other and to the size
+  module _ (b : ℕ) (l : b < blocks g) where
+    pub block-row : row-of g b + 1 < length (g .row-cuts)
+    block-row = omega (arith, div-below b (column-blocks g) (row-blocks g) (omega (arith, s .column-side .long)) l)
+
+    pub block-column : column-of g b + 1 < length (g .column-cuts)
+    block-column = omega (arith, mod-below b (column-blocks g) (omega (arith, s .column-side .long)))
+
+    pub block-tall : top g b < bottom g b
+    block-tall = s .row-side .rises (row-of g b) block-row
+
+    pub block-wide : left g b < right g b
+    block-wide = s .column-side .rises (column-of g b) block-column
+
+    pub block-low : bottom g b ≤ rows
+    block-low =
+        let h : length (g .row-cuts) - 1 < length (g .row-cuts) = omega (arith, s .row-side .long) in
+        omega (arith, rises-to rows (g .row-cuts) (s .row-side) (row-of g b + 1) (length (g .row-cuts) - 1) (omega (arith, block-row)) h, s .row-side .last)
+
+    pub block-near : right g b ≤ columns
+    block-near =
+        let h : length (g .column-cuts) - 1 < length (g .column-cuts) = omega (arith, s .column-side .long) in
+        omega (arith, rises-to columns (g .column-cuts) (s .column-side) (column-of g b + 1) (length (g .column-cuts) - 1) (omega (arith, block-column)) h, s .column-side .last)
 
 pub covered-once : Covered-once
 covered-once n rows columns g s r c h k = (covers n rows columns g s r c h k, λ b v. only n rows columns g s b r c v)

@@ -1,5 +1,6 @@
 -- A matrix cut into blocks, each with an owner. Assumes nothing.
 --     Grid                row splits, column splits, an owner for each block row by row, and the order inside a block
+--     grid rs cs os o     the grid of these row splits, column splits, owners and order
 --     row-blocks g        the number of blocks from top to bottom; column-blocks g, from left to right; blocks g, in all
 --     row-of g b          in which row of blocks block b stands; column-of g b, in which column
 --     top g b, bottom g b the first row of block b, and the one after its last; left g b and right g b, of its columns
@@ -20,6 +21,9 @@ pub record Grid : Type 0 where
   pub column-cuts : List ℕ
   pub owners : List ℕ
   pub order : Order
+
+abbrev pub grid : List ℕ → List ℕ → List ℕ → Order → Grid
+grid rs cs os o = record { row-cuts = rs; column-cuts = cs; owners = os; order = o }
 
 abbrev pub row-blocks : Grid → ℕ
 row-blocks g = spans (g .row-cuts)

@@ -2,6 +2,7 @@
 // the searches and the laws that layouts rest on.
 pub mod cuts;
 pub mod laws;
+pub mod lines;
 pub mod order;
 pub mod owners;
 
