@@ -1,2 +1,3 @@
+pub mod Layouts
 pub mod Making
 pub mod Tables

@@ -1,3 +1,4 @@
+pub mod Asking
 pub mod Layouts
 pub mod Making
 pub mod Tables

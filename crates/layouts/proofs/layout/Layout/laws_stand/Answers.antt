@@ -1,0 +1,5 @@
+use Rattle.layouts.proofs.Layouts.{laws}
+use Rattle.layouts.proofs.layout.Layout.laws_stand.Needs as need
+
+pub returns : need.returns
+returns c = record { laws = laws (c .args .self .now) }
