@@ -9,6 +9,7 @@ ghost use Rattle.splits.specs.Splits.{split-rule};
 
 pub mod ask;
 pub mod make;
+pub mod places;
 mod tables;
 
 use splits::Order;

@@ -1,5 +1,5 @@
 // Questions about a layout and its blocks.
-ghost use Prim.Native.Nat.{ℕ};
+ghost use Prim.Native.Nat.{_*_, _<_};
 ghost use mathlib.Core.Path.{_≡_};
 ghost use Rattle.faults.specs.Answers.{Answers};
 ghost use Rattle.layouts.specs.Asking.{IsBlock, block-refusal, board-refusal, element-refusal, letter-of};
@@ -15,13 +15,31 @@ use splits::Order;
 use splits::cuts::covering_block;
 
 // The fault of a question.
-pub fn refused(cause: Cause) -> Fault
+pub(crate) fn refused(cause: Cause) -> Fault
     ensures value { λ r. ⌜ (r .cause ≡ cause) × (r .layer ≡ Layer.Layouts) × (r .call ≡ Call.Ask) ⌝ }
 {
     Fault {
         layer: Layer::Layouts,
         call: Call::Ask,
         cause,
+    }
+}
+
+// The block of this number, which the layout has.
+pub(crate) fn block_at(layout: &Layout, number: usize) -> Block
+    requires { ⌜ number < now layout .«row_blocks» * now layout .«column_blocks» ⌝ }
+    ensures { λ r. ⌜ IsBlock (now (layout .entry)) number r ⌝ }
+{
+    let (i, j) = (number / layout.column_blocks, number % layout.column_blocks);
+    let top = layout.row_splits[i] as usize;
+    let left = layout.column_splits[j] as usize;
+    Block {
+        top,
+        left,
+        height: layout.row_splits[i + 1] as usize - top,
+        width: layout.column_splits[j + 1] as usize - left,
+        owner: layout.owners[number] as usize,
+        start: layout.starts[number] as usize,
     }
 }
 
@@ -122,16 +140,6 @@ impl Layout {
         if number >= self.row_blocks * self.column_blocks {
             return Err(refused(Cause::Beyond { index: 0 }));
         }
-        let (i, j) = (number / self.column_blocks, number % self.column_blocks);
-        let top = self.row_splits[i] as usize;
-        let left = self.column_splits[j] as usize;
-        Ok(Block {
-            top,
-            left,
-            height: self.row_splits[i + 1] as usize - top,
-            width: self.column_splits[j + 1] as usize - left,
-            owner: self.owners[number] as usize,
-            start: self.starts[number] as usize,
-        })
+        Ok(block_at(self, number))
     }
 }
