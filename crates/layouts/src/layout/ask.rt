@@ -1,5 +1,6 @@
 // Questions about a layout and its blocks.
 ghost use Prim.Native.Nat.{_*_, _<_};
+ghost use mathlib.Core.Bool.{true};
 ghost use mathlib.Core.Path.{_≡_};
 ghost use Rattle.faults.specs.Answers.{Answers};
 ghost use Rattle.layouts.specs.Asking.{IsBlock, block-refusal, board-refusal, element-refusal, letter-of};
@@ -106,6 +107,7 @@ impl Layout {
 
     // Names the laws of blocks and places, of this layout. It answers true.
     pub fn laws_stand(&self) -> bool
+        ensures value { λ r. ⌜ r ≡ true ⌝ }
         ensures laws { λ _. ⌜ Laws-of (now (self .entry)) ⌝ }
     {
         true

@@ -1,5 +1,6 @@
+use mathlib.Core.Path.{refl}
 use Rattle.layouts.proofs.Layouts.{laws}
 use Rattle.layouts.proofs.layout.Layout.laws_stand.Needs as need
 
 pub returns : need.returns
-returns c = record { laws = laws (c .args .self .now) }
+returns c = record { value = refl; laws = laws (c .args .self .now) }
