@@ -6,22 +6,24 @@ use Prim.Native.Nat.{ℕ, _+_, _-_, _*_, _≤_, _<_}
 use native.Mathlib.Nat.{mul-le-mul}
 use native.Mathlib.Omega.{arith}
 use lib.Dec.{ltb}
-use Rattle.std.proofs.shelf.Tests.{cases-bool, and-parts, ltb-true}
+use Rattle.std.proofs.shelf.Tests.{cases-bool, and-parts, and-from, cond-true, lt-ltb, ltb-true}
 use Rattle.std.specs.declared.option.Option.{Option}
 use Rattle.std.specs.declared.option.Option.the-variants.{None, Some}
 use Rattle.faults.specs.declared.cause.Cause.{Cause}
 use Rattle.faults.specs.declared.cause.Cause.the-variants.{Beyond}
 use Rattle.splits.specs.Blocks.{Grid, Covers, blocks, owner, top, bottom, left, right, height, width}
+use Rattle.splits.specs.Laws.{Naming}
+use Rattle.splits.specs.Splits.{covering}
 use Rattle.splits.specs.Places.{line, pitch, spot, start, inside, room, total, step-along-row, step-down-column, row-step, column-step}
 use Rattle.splits.proofs.Blocks.{covered-once, only, block-low, block-near}
-use Rattle.splits.proofs.Places.{ends-before, filled, stepped}
+use Rattle.splits.proofs.Places.{ends-before, filled, in-parts, stepped}
 use Rattle.splits.proofs.Sums.{whole}
 use Rattle.layouts.specs.declared.block.Block.{Block}
 use Rattle.layouts.specs.declared.block.Spot.{Spot}
 use Rattle.layouts.specs.declared.layout.Layout.{Layout}
-use Rattle.layouts.specs.Asking.{IsBlock, IsSpot, element-refusal}
-use Rattle.layouts.specs.Layouts.{grid-of, owner-of, cover-of, offset-of}
-use Rattle.layouts.proofs.Layouts.{sound}
+use Rattle.layouts.specs.Asking.{IsBlock, IsCover, IsPlace, IsSpot, element-refusal}
+use Rattle.layouts.specs.Layouts.{grid-of, row-cuts, column-cuts, owner-of, cover-of, offset-of, place-of}
+use Rattle.layouts.proofs.Layouts.{sound, column-spans}
 
 module _ (l : Layout) (b r c : ℕ) (v : Covers (grid-of l) b r c) (k : Block) (is : IsBlock l b k) where
   pub in-row : r - k .top < k .height
@@ -107,3 +109,28 @@ module _ (l : Layout) (r c : ℕ) (e : element-refusal l r c ≡ None) where
         whole (l .boards) (l .rows) (l .columns) (grid-of l) (sound l) .2 (owner-of l (cover-of l r c)),
         mul-le-mul (l .tall .1) (l .wide .1),
       )
+
+module _ (l : Layout) (r c : ℕ) (h : r < l .rows) (k : c < l .columns) where
+  pub asked-element : element-refusal l r c ≡ None
+  asked-element =
+      cond-true (ltb r (l .rows) && ltb c (l .columns)) None (Some (Beyond 0))
+      (and-from (ltb r (l .rows)) (ltb c (l .columns)) (lt-ltb r (l .rows) h) (lt-ltb c (l .columns) k))
+
+  pub is-cover : (v : ℕ) → v ≡ cover-of l r c → IsCover l r c v
+  is-cover v e =
+      let once = covered-once (l .boards) (l .rows) (l .columns) (grid-of l) (sound l) r c h k in
+      record { number = e; covers = subst (λ b. Covers (grid-of l) b r c) (sym e) (once .0); only = λ b w. once .1 b w ∙ sym e }
+
+  -- the number that the code computes
+  pub is-cover-of : (d a : ℕ) → d ≡ covering (row-cuts l) r → a ≡ covering (column-cuts l) c → d * l .«column_blocks» + a ≡ cover-of l r c
+  is-cover-of d a e f =
+      ap (λ x. x * l .«column_blocks» + a) e
+      ∙ (ap (λ x. covering (row-cuts l) r * l .«column_blocks» + x) f ∙ ap (λ x. covering (row-cuts l) r * x + covering (column-cuts l) c) (sym (column-spans l)))
+
+own : (n : ℕ) → Naming n (λ p. p)
+own n = record { below = λ j l. l; apart = λ i j l m e. e }
+
+pub is-place : (l : Layout) (share r c v : ℕ) → element-refusal l r c ≡ None → v ≡ place-of l share (λ p. p) r c → IsPlace l share r c v
+is-place l share r c v e same =
+    let m = in-matrix l r c e in
+    record { number = same; placed = λ fits. in-parts (l .boards) (l .rows) (l .columns) (grid-of l) (sound l) share fits (λ p. p) (own (l .boards)) r c (m .0) (m .1) }

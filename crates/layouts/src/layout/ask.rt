@@ -3,8 +3,8 @@ ghost use Prim.Native.Nat.{_*_, _<_};
 ghost use mathlib.Core.Bool.{true};
 ghost use mathlib.Core.Path.{_≡_};
 ghost use Rattle.faults.specs.Answers.{Answers};
-ghost use Rattle.layouts.specs.Asking.{IsBlock, block-refusal, board-refusal, element-refusal, letter-of};
-ghost use Rattle.layouts.specs.Layouts.{Laws-of, blocks-of, column-cuts, cover-of, grid-of, row-cuts, total-of};
+ghost use Rattle.layouts.specs.Asking.{IsBlock, IsCover, block-refusal, board-refusal, element-refusal, letter-of};
+ghost use Rattle.layouts.specs.Layouts.{Laws-of, column-cuts, grid-of, row-cuts, total-of};
 ghost use Rattle.splits.specs.Blocks.{column-blocks, row-blocks};
 use crate::block::Block;
 use crate::layout::Layout;
@@ -125,7 +125,7 @@ impl Layout {
 
     // The block that covers the element.
     pub fn cover(&self, row: usize, column: usize) -> Result<usize, Fault>
-        ensures cases { λ r. ⌜ Answers Layer.Layouts Call.Ask (element-refusal (now (self .entry)) row column) r (λ v. v ≡ cover-of (now (self .entry)) row column) (Unit {0}) ⌝ }
+        ensures cases { λ r. ⌜ Answers Layer.Layouts Call.Ask (element-refusal (now (self .entry)) row column) r (λ v. IsCover (now (self .entry)) row column v) (Unit {0}) ⌝ }
     {
         if row >= self.rows || column >= self.columns {
             return Err(refused(Cause::Beyond { index: 0 }));

@@ -2,8 +2,8 @@
 ghost use mathlib.Core.Path.{_≡_};
 ghost use Prim.Native.Nat.{_+_, _*_, _<_, _≤_};
 ghost use Rattle.faults.specs.Answers.{Answers};
-ghost use Rattle.layouts.specs.Asking.{IsSpot, element-refusal, in-block-refusal};
-ghost use Rattle.layouts.specs.Layouts.{cover-of, grid-of, place-of};
+ghost use Rattle.layouts.specs.Asking.{IsPlace, IsSpot, element-refusal, in-block-refusal};
+ghost use Rattle.layouts.specs.Layouts.{cover-of, grid-of};
 ghost use Rattle.splits.specs.Blocks.{Covers};
 ghost use Rattle.splits.specs.Places.{line, pitch, spot};
 use crate::block::Block;
@@ -67,7 +67,7 @@ impl Layout {
 
     // The place of an element in a bank whose parts have `share` elements each, every owner having its own part.
     pub fn place(&self, share: u32, row: usize, column: usize) -> Result<usize, Fault>
-        ensures cases { λ r. ⌜ Answers Layer.Layouts Call.Ask (element-refusal (now (self .entry)) row column) r (λ v. v ≡ place-of (now (self .entry)) share (λ p. p) row column) (Unit {0}) ⌝ }
+        ensures cases { λ r. ⌜ Answers Layer.Layouts Call.Ask (element-refusal (now (self .entry)) row column) r (λ v. IsPlace (now (self .entry)) share row column v) (Unit {0}) ⌝ }
     {
         let spot = self.spot(row, column)?;
         Ok(spot.owner * share as usize + spot.offset)
