@@ -8,9 +8,9 @@ use native.Mathlib.Nat.{mul-le-mul}
 use native.Mathlib.Numerals.{add-one}
 use native.Mathlib.Omega.{arith}
 use lib.Dec.{eqb}
-use lib.ListN.{length, getD, set}
-use Rattle.std.proofs.shelf.Lists.{getD-set-same, getD-set-other}
-use Rattle.std.proofs.shelf.Tests.{cases-eq, cond-true, cond-false, eq-eqb, ne-eqb}
+use lib.ListN.{length, getD, replicate, set}
+use Rattle.std.proofs.shelf.Lists.{getD-set-same, getD-set-other, getD-replicate, getD-past, length-replicate}
+use Rattle.std.proofs.shelf.Tests.{cases-eq, cases-lt, cond-true, cond-false, eq-eqb, ne-eqb}
 use Rattle.splits.specs.declared.order.Order.{Order}
 use Rattle.splits.specs.Blocks.{Grid, Sound, blocks, column-blocks, row-of, column-of, top, bottom, left, right, height, width, grid, owner}
 use Rattle.splits.specs.Places.{room, start, held, total}
@@ -18,6 +18,13 @@ use Rattle.splits.proofs.Blocks.{block-row, block-column, block-tall, block-wid
 use Rattle.splits.proofs.Places.{ends-before}
 use Rattle.splits.proofs.Sums.{whole}
 use Rattle.layouts.specs.Tables.{Lawful}
+
+pub zeros : (n k : ℕ) → _≡_ {A = ℕ} (getD {A = ℕ} (replicate n 0) k 0) 0
+zeros n k =
+    elim (cases-lt k n) [
+      | inl l ↦ getD-replicate n k 0 0 l
+      | inr m ↦ getD-past (replicate n 0) k 0 (omega (arith, length-replicate {A = ℕ} n 0))
+    ]
 
 -- one more entry of a table that is filled by index
 pub entry-more : (f : ℕ → ℕ) (xs : List ℕ) (b v : ℕ) → b < length xs → v ≡ f b → ((k : ℕ) → k < b → getD xs k 0 ≡ f k)

@@ -4,13 +4,14 @@
 --     make-refusal ..     the cause for which a layout is refused: letter, boards, rows, columns, row splits,
 --                         column splits, owners, in this order
 --     Buildable ..        what no refusal but the letter's comes to
---     Built o ..          the layout has just these parts and the order o
+--     Built o ..          the layout has just these parts and the order o, and zeros past them in its tables
 --     Made letter ..      the layout has just these parts and the order that the letter names
 use mathlib.Core.Bool.{cond, _&&_}
 use mathlib.Core.List.{List, [], _∷_}
 use mathlib.Core.Path.{_≡_}
-use Prim.Native.Nat.{ℕ, _*_, _≤_}
+use Prim.Native.Nat.{ℕ, _-_, _*_, _≤_}
 use lib.Dec.{eqb, leb}
+use lib.ListN.{length, getD, drop, replicate}
 use Rattle.std.specs.Options.{isSome, mapped}
 use Rattle.std.specs.declared.option.Option.{Option}
 use Rattle.std.specs.declared.option.Option.the-variants.{None, Some}
@@ -74,6 +75,10 @@ pub record Built (o : Order) (n high wide : ℕ) (rs cs os : List ℕ) (l : Layo
   pub rows : l .rows ≡ high
   pub columns : l .columns ≡ wide
   pub lists : grid-of l ≡ grid rs cs os o
+  pub row-rest : drop (length rs) (l .«row_splits») ≡ replicate (33 - length rs) 0
+  pub column-rest : drop (length cs) (l .«column_splits») ≡ replicate (33 - length cs) 0
+  pub owner-rest : drop (length os) (l .owners) ≡ replicate (1024 - length os) 0
+  pub start-rest : (b : ℕ) → length os ≤ b → getD (l .starts) b 0 ≡ 0
 
 abbrev pub Made : ℕ → ℕ → ℕ → ℕ → List ℕ → List ℕ → List ℕ → Layout → Type 0
 Made letter n rows columns rs cs os l = (order-of letter ≡ Some (l .order)) × Built (l .order) n rows columns rs cs os l

@@ -26,7 +26,15 @@ use layouts::SpotPartialEq;
 use std::test::*;
 
 fn example(letter: char) -> Result<Layout, Fault> {
-    Layout::new(letter, 3, 5, 6, &[0, 2, 5], &[0, 1, 4, 6], &[0, 1, 0, 2, 0, 1])
+    Layout::new(
+        letter,
+        3,
+        5,
+        6,
+        &[0, 2, 5],
+        &[0, 1, 4, 6],
+        &[0, 1, 0, 2, 0, 1],
+    )
 }
 
 // The cause for which a layout is refused, if it is.
@@ -51,7 +59,14 @@ fn the_example_answers_its_parts() -> Result<(), Fail> {
     check_eq(layout.total(2)?, 3)?;
     check_eq(
         layout.block(5)?,
-        Block { top: 2, left: 4, height: 3, width: 2, owner: 1, start: 6 },
+        Block {
+            top: 2,
+            left: 4,
+            height: 3,
+            width: 2,
+            owner: 1,
+            start: 6,
+        },
     )
 }
 
@@ -62,21 +77,39 @@ fn elements_lie_by_rows_or_by_columns_inside_a_block() -> Result<(), Fail> {
     check_eq(by_rows.place(16, 3, 5)?, 25)?;
     check_eq(
         by_rows.spot(3, 5)?,
-        Spot { owner: 1, offset: 9, row_step: 1, column_step: 2 },
+        Spot {
+            owner: 1,
+            offset: 9,
+            row_step: 1,
+            column_step: 2,
+        },
     )?;
     let by_columns = example('C')?;
     check_eq(by_columns.place(16, 3, 5)?, 26)?;
     check_eq(
         by_columns.spot_in(5, 3, 5)?,
-        Spot { owner: 1, offset: 10, row_step: 3, column_step: 1 },
+        Spot {
+            owner: 1,
+            offset: 10,
+            row_step: 3,
+            column_step: 1,
+        },
     )
 }
 
 #[test]
 fn questions_beyond_their_range_are_refused() -> Result<(), Fail> {
     let layout = example('R')?;
-    let beyond = Fault { layer: Layer::Layouts, call: Call::Ask, cause: Cause::Beyond { index: 0 } };
-    let board = Fault { layer: Layer::Layouts, call: Call::Ask, cause: Cause::Board { number: 3 } };
+    let beyond = Fault {
+        layer: Layer::Layouts,
+        call: Call::Ask,
+        cause: Cause::Beyond { index: 0 },
+    };
+    let board = Fault {
+        layer: Layer::Layouts,
+        call: Call::Ask,
+        cause: Cause::Board { number: 3 },
+    };
     check_eq(layout.total(3), Err(board))?;
     check_eq(layout.cover(5, 0), Err(beyond))?;
     check_eq(layout.cover(0, 6), Err(beyond))?;
@@ -87,7 +120,10 @@ fn questions_beyond_their_range_are_refused() -> Result<(), Fail> {
 
 #[test]
 fn sixteen_boards_pass_and_seventeen_do_not() -> Result<(), Fail> {
-    check_eq(cause_of(Layout::new('R', 16, 1, 1, &[0, 1], &[0, 1], &[15])), None)?;
+    check_eq(
+        cause_of(Layout::new('R', 16, 1, 1, &[0, 1], &[0, 1], &[15])),
+        None,
+    )?;
     check_eq(
         cause_of(Layout::new('R', 17, 1, 1, &[0, 1], &[0, 1], &[15])),
         Some(Cause::Board { number: 17 }),
@@ -107,36 +143,89 @@ fn splits_rise_from_zero_to_the_size() -> Result<(), Fail> {
     let rows = Side::Rows;
     check_eq(
         cause_of(Layout::new('R', 1, 3, 1, &[0, 3, 3], &[0, 1], &[0])),
-        Some(Cause::Splits { side: rows, index: 2 }),
+        Some(Cause::Splits {
+            side: rows,
+            index: 2,
+        }),
     )?;
     check_eq(
         cause_of(Layout::new('R', 1, 4, 1, &[0, 3], &[0, 1], &[0])),
-        Some(Cause::Splits { side: rows, index: 2 }),
+        Some(Cause::Splits {
+            side: rows,
+            index: 2,
+        }),
     )?;
     check_eq(
         cause_of(Layout::new('R', 1, 4, 1, &[1, 4], &[0, 1], &[0])),
-        Some(Cause::Splits { side: rows, index: 0 }),
+        Some(Cause::Splits {
+            side: rows,
+            index: 0,
+        }),
     )?;
     check_eq(
         cause_of(Layout::new('R', 1, 4, 1, &[0, 4], &[0, 2], &[0])),
-        Some(Cause::Splits { side: Side::Columns, index: 1 }),
+        Some(Cause::Splits {
+            side: Side::Columns,
+            index: 1,
+        }),
     )
 }
 
 #[test]
 fn thirty_three_splits_pass_and_thirty_four_do_not() -> Result<(), Fail> {
     let splits = [
-        0u16, 1, 2, 3, 4, 5, 6, 7, 8, 9, 10, 11, 12, 13, 14, 15, 16, 17, 18, 19, 20, 21, 22, 23, 24, 25, 26, 27, 28,
-        29, 30, 31, 32, 33,
+        0u16,
+        1,
+        2,
+        3,
+        4,
+        5,
+        6,
+        7,
+        8,
+        9,
+        10,
+        11,
+        12,
+        13,
+        14,
+        15,
+        16,
+        17,
+        18,
+        19,
+        20,
+        21,
+        22,
+        23,
+        24,
+        25,
+        26,
+        27,
+        28,
+        29,
+        30,
+        31,
+        32,
+        33,
     ];
-    check_eq(cause_of(Layout::new('R', 1, 32, 1, &splits[0..33], &[0, 1], &[0; 32])), None)?;
+    check_eq(
+        cause_of(Layout::new('R', 1, 32, 1, &splits[0..33], &[0, 1], &[0; 32])),
+        None,
+    )?;
     check_eq(
         cause_of(Layout::new('R', 1, 32, 1, &splits, &[0, 1], &[0; 32])),
-        Some(Cause::Splits { side: Side::Rows, index: 33 }),
+        Some(Cause::Splits {
+            side: Side::Rows,
+            index: 33,
+        }),
     )?;
     check_eq(
         cause_of(Layout::new('R', 1, 33, 1, &splits, &[0, 1], &[0; 33])),
-        Some(Cause::Splits { side: Side::Rows, index: 32 }),
+        Some(Cause::Splits {
+            side: Side::Rows,
+            index: 32,
+        }),
     )
 }
 

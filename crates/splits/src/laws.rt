@@ -3,20 +3,13 @@ ghost use mathlib.Core.Bool.{true};
 ghost use mathlib.Core.Path.{_≡_};
 ghost use Rattle.splits.specs.Laws.{Apart, Covered-once, Filled, In-parts, Stepped, Whole};
 
-// Names the laws of blocks: each element has exactly one, and all together have the matrix's elements.
-// It answers true.
-pub fn blocks_stand() -> bool
+// Names the laws: each element has exactly one block, and all blocks together have the matrix's elements;
+// under any naming of the owners each element's place is in its owner's part of the bank, no two are
+// alike, and inside a block they go by equal steps. It answers true.
+pub fn laws_stand() -> bool
     ensures value { λ r. ⌜ r ≡ true ⌝ }
     ensures once { λ _. ⌜ Covered-once ⌝ }
     ensures whole { λ _. ⌜ Whole ⌝ }
-{
-    true
-}
-
-// Names the laws of places under any naming of the owners: each element's place is in its owner's part of
-// the bank, no two are alike, and inside a block they go by equal steps. It answers true.
-pub fn places_stand() -> bool
-    ensures value { λ r. ⌜ r ≡ true ⌝ }
     ensures filled { λ _. ⌜ Filled ⌝ }
     ensures parts { λ _. ⌜ In-parts ⌝ }
     ensures apart { λ _. ⌜ Apart ⌝ }

@@ -1,5 +1,5 @@
 // The tables of a layout.
-ghost use lib.ListN.{getD, length, take};
+ghost use lib.ListN.{drop, getD, length, replicate, take};
 ghost use mathlib.Core.Path.{_≡_};
 ghost use Prim.Native.Nat.{ℕ, _+_, _-_, _*_, _^_, _<_, _≤_};
 ghost use Rattle.layouts.specs.Tables.{Lawful};
@@ -7,10 +7,11 @@ ghost use Rattle.splits.specs.Blocks.{blocks, grid};
 ghost use Rattle.splits.specs.Places.{room, start, total};
 use splits::Order;
 
-// A table that begins with the items.
+// A table that begins with the items and is blank after them.
 pub fn table<T: Copy, const N: usize>(items: &[T], blank: T) -> [T; N]
     requires { ⌜ length (now items) ≤ N ⌝ }
     ensures items { λ r. ⌜ take (length (now (items .entry))) r ≡ now (items .entry) ⌝ }
+    ensures rest { λ r. ⌜ drop (length (now (items .entry))) r ≡ replicate (N - length (now (items .entry))) blank ⌝ }
     ensures len { λ r. ⌜ length r ≡ N ⌝ }
 {
     let mut table = [blank; N];
@@ -49,6 +50,7 @@ pub fn tally(
 ) -> ([u32; 1024], [u32; 16])
     requires { ⌜ Lawful (now «row_splits») (now «column_splits») (now owners) order ⌝ }
     ensures starts { λ r. ⌜ ((b : ℕ) → b < length (now (owners .entry)) → getD (r .0) b 0 ≡ start (grid (now («row_splits» .entry)) (now («column_splits» .entry)) (now (owners .entry)) order) b) ⌝ }
+    ensures rest { λ r. ⌜ ((b : ℕ) → length (now (owners .entry)) ≤ b → getD (r .0) b 0 ≡ 0) ⌝ }
     ensures totals { λ r. ⌜ ((p : ℕ) → p < 16 → getD (r .1) p 0 ≡ total (grid (now («row_splits» .entry)) (now («column_splits» .entry)) (now (owners .entry)) order) p) ⌝ }
     ensures len { λ r. ⌜ (length (r .0) ≡ 1024) × (length (r .1) ≡ 16) ⌝ }
 {

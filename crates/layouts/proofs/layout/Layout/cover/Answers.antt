@@ -30,7 +30,8 @@ returns c =
     let h = c .if-row-self .left in
     let k = c .if-column-self .left in
     record {
-      cases =
-        (asked-element l (c .args .row) (c .args .column) h k,
-        is-cover l (c .args .row) (c .args .column) h k _ (is-cover-of l (c .args .row) (c .args .column) h k (c .covering-block-down .result) (c .covering-block-across .result) d a));
+      cases = (
+        asked-element l (c .args .row) (c .args .column) h k,
+        is-cover l (c .args .row) (c .args .column) h k _ (is-cover-of l (c .args .row) (c .args .column) h k (c .covering-block-down .result) (c .covering-block-across .result) d a),
+      );
     }

@@ -28,5 +28,5 @@ returns c =
     let h = c .in-Continue-spot .ensures tt .cases in
     let s = c .in-Continue-spot .spot in
     let e : s .owner * c .args .share + s .offset ≡ place-of l (c .args .share) (λ p. p) (c .args .row) (c .args .column) =
-      ap (λ x. x * c .args .share + s .offset) (h .1 .owner) ∙ ap (λ x. owner-of l (cover-of l (c .args .row) (c .args .column)) * c .args .share + x) (h .1 .offset) in
+    ap (λ x. x * c .args .share + s .offset) (h .1 .owner) ∙ ap (λ x. owner-of l (cover-of l (c .args .row) (c .args .column)) * c .args .share + x) (h .1 .offset) in
     record { cases = (h .0, is-place l (c .args .share) (c .args .row) (c .args .column) _ (h .0) e) }

@@ -87,4 +87,8 @@ returns c =
       lists =
           grid-held (c .args .boards) (c .args .rows) (c .args .columns) (c .args .row-splits .now) (c .args .column-splits .now) (c .args .owners .now) (c .args .order) (c .pre)
           (c .table .result) (c .table-2 .result) (c .table-3 .result) (c .table .ensures .items) (c .table-2 .ensures .items) (c .table-3 .ensures .items);
+      row-rest = c .table .ensures .rest;
+      column-rest = c .table-2 .ensures .rest;
+      owner-rest = c .table-3 .ensures .rest;
+      start-rest = c .tally .ensures .rest;
     }

@@ -1,11 +1,12 @@
+use mathlib.Core.Logic.{_≢_}
 use mathlib.Core.Path.{_≡_, refl, sym, ap, subst, _∙_}
 use Prim.Native.Nat.{ℕ, _+_, _<_}
 use native.Mathlib.Omega.{arith}
 use lib.ListN.{length, getD, set}
-use Rattle.std.proofs.shelf.Lists.{length-set}
+use Rattle.std.proofs.shelf.Lists.{getD-set-other, length-replicate, length-set}
 use Rattle.splits.specs.Blocks.{Grid, blocks, grid, owner}
 use Rattle.splits.specs.Places.{start, held}
-use Rattle.layouts.proofs.Tables.{counted, few, board, little, entry-more, tally-more}
+use Rattle.layouts.proofs.Tables.{counted, few, board, little, entry-more, tally-more, zeros}
 use Rattle.layouts.proofs.layout.tables.tally.Needs as need
 
 pub index-starts-b : need.index-starts-b
@@ -24,6 +25,9 @@ add-totals c =
     let l : b < blocks (grid rs cs os (c .args .order)) = omega (arith, counted rs cs os (c .args .order) (c .pre), c .loop-b-test .taken) in
     let p = board rs cs os (c .args .order) (c .pre) b l in
     omega (arith, c .loop-b .inv .1 (getD os b 0) p, c .block-room .ensures, little rs cs os (c .args .order) (c .pre) b l)
+
+pub loop-b-holds : need.loop-b-holds
+loop-b-holds c = ((λ k h. absurd (omega arith)), (λ p h. zeros 16 p), length-replicate {A = ℕ} 1024 0, length-replicate {A = ℕ} 16 0, (λ k h. zeros 1024 k))
 
 pub loop-b-again : need.loop-b-again
 loop-b-again c =
@@ -44,4 +48,5 @@ loop-b-again c =
       (λ q h. tally-more g b ts v (omega (arith, n, p)) (ap (λ x. getD ts (getD os b 0) 0 + x) (c .block-room .ensures)) (λ q h. c .loop-b .inv .1 q (omega (arith, n, h))) q (omega (arith, n, h))),
       length-set (c .loop-b .starts) b (getD ts (getD os b 0) 0) ∙ c .loop-b .inv .2,
       length-set ts (getD os b 0) v ∙ n,
+      (λ k h. (let other : k ≢ b = omega arith in getD-set-other (c .loop-b .starts) b k (getD ts (getD os b 0) 0) 0 other ∙ c .loop-b .inv .4 k (omega arith))),
     )
