@@ -12,14 +12,14 @@ pub loop-k-again : need.loop-k-again
 loop-k-again c =
     let xs = c .args .splits .now in
     let k = c .loop-k .k in
-    let t = le-leb (getD xs (k + 1) 0) (c .args .i) (c .if-splits-k .taken) in
+    let t = le-leb (getD xs (k + 1) 0) (c .args .i) (omega (arith, c .if-splits-k .taken)) in
     (omega arith, omega (arith, c .loop-k .inv .1, leading-drop-yes (λ x. leb x (c .args .i)) xs (k + 1) 0 (c .loop-k-test .taken) t))
 
 pub returns-else-splits-k : need.returns-else-splits-k
 returns-else-splits-k c =
     let xs = c .args .splits .now in
     let k = c .loop-k .k in
-    let f = lt-leb (getD xs (k + 1) 0) (c .args .i) (c .if-splits-k .left) in
+    let f = lt-leb (getD xs (k + 1) 0) (c .args .i) (omega (arith, c .if-splits-k .left)) in
     record {
       value = omega (arith, c .loop-k .inv .1, leading-drop-no (λ x. leb x (c .args .i)) xs (k + 1) 0 (c .loop-k-test .taken) f);
       law = covered;

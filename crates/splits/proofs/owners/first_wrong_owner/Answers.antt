@@ -18,8 +18,8 @@ returns-then-i-blocks c =
     let i = c .loop-i .i in
     let may = owner-rule (c .args .blocks) (c .args .boards) in
     let f : may i (c .loop-i .inv .0) (Some (getD xs i 0)) ≡ false = elim (c .then-i-blocks .came) [
-      | then-i-blocks·by·then-i-blocks w ↦ and-left (ltb i (c .args .blocks)) (ltb (getD xs i 0) (c .args .boards)) (le-ltb i (c .args .blocks) (w .if-i-blocks .taken))
-      | then-i-blocks·by·else-i-blocks·then-owner-boards w ↦ and-right (ltb i (c .args .blocks)) (ltb (getD xs i 0) (c .args .boards)) (le-ltb (getD xs i 0) (c .args .boards) (w .if-owner-boards .taken))
+      | then-i-blocks·by·then-i-blocks w ↦ and-left (ltb i (c .args .blocks)) (ltb (getD xs i 0) (c .args .boards)) (le-ltb i (c .args .blocks) (omega (arith, w .if-i-blocks .taken)))
+      | then-i-blocks·by·else-i-blocks·then-owner-boards w ↦ and-right (ltb i (c .args .blocks)) (ltb (getD xs i 0) (c .args .boards)) (le-ltb (getD xs i 0) (c .args .boards) (omega (arith, w .if-owner-boards .taken)))
     ] in
     let e : first-wrong may xs ≡ Some i = sym (c .loop-i .inv .1) ∙ rule-halts may i (c .loop-i .inv .0) xs (c .loop-i-test .taken) f in
     record { value = sym e; law = owner-wrong-at (c .args .blocks) (c .args .boards) xs i e }
@@ -28,7 +28,7 @@ pub loop-i-again : need.loop-i-again
 loop-i-again c =
     let xs = c .args .owners .now in
     let i = c .loop-i .i in
-    let t = and-from (ltb i (c .args .blocks)) (ltb (getD xs i 0) (c .args .boards)) (lt-ltb i (c .args .blocks) (c .if-i-blocks .left)) (lt-ltb (getD xs i 0) (c .args .boards) (c .if-owner-boards .left)) in
+    let t = and-from (ltb i (c .args .blocks)) (ltb (getD xs i 0) (c .args .boards)) (lt-ltb i (c .args .blocks) (omega (arith, c .if-i-blocks .left))) (lt-ltb (getD xs i 0) (c .args .boards) (omega (arith, c .if-owner-boards .left))) in
     (Some (getD xs i 0), sym (rule-more (owner-rule (c .args .blocks) (c .args .boards)) i (c .loop-i .inv .0) xs (c .loop-i-test .taken) t) ∙ c .loop-i .inv .1)
 
 pub returns-then-owners-blocks : need.returns-then-owners-blocks
