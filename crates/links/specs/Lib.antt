@@ -1,0 +1,4 @@
+pub mod Calls
+pub mod Frames
+pub mod Held
+pub mod Refusals
