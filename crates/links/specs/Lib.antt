@@ -1,4 +1,5 @@
 pub mod Calls
+pub mod Crossbars
 pub mod Frames
 pub mod Held
 pub mod Refusals
