@@ -1,3 +1,8 @@
+pub mod Carried
 pub mod Filled
+pub mod Laid
+pub mod Refilled
 pub mod Refused
+pub mod Searched
 pub mod Tables
+pub mod Written

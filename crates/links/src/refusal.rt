@@ -1,8 +1,6 @@
 // The faults of the links.
 ghost use mathlib.Core.Path.{_≡_};
-
 ghost use Rattle.faults.specs.declared.fault.Layer.the-variants.{Links};
-
 use faults::Call;
 use faults::Cause;
 use faults::Fault;
@@ -11,5 +9,9 @@ use faults::Layer;
 pub fn fault(call: Call, cause: Cause) -> Fault
     ensures { λ r. ⌜ r ≡ record { layer = Links; call = call; cause = cause } ⌝ }
 {
-    Fault { layer: Layer::Links, call, cause }
+    Fault {
+        layer: Layer::Links,
+        call,
+        cause,
+    }
 }

@@ -23,7 +23,10 @@ impl Crossbar {
         if boards < 1 || boards > 16 {
             return Err(fault(Call::Make, Cause::Board { number: boards }));
         }
-        Ok(Crossbar { boards, inboxes: [Inbox::empty(); 16] })
+        Ok(Crossbar {
+            boards,
+            inboxes: [Inbox::empty(); 16],
+        })
     }
 }
 

@@ -11,7 +11,10 @@ impl Inbox {
     pub(crate) fn empty() -> Self
         ensures { λ r. ⌜ held (r .words) (r .used) ≡ [] ⌝ }
     {
-        Inbox { words: [0; 64], used: 0 }
+        Inbox {
+            words: [0; 64],
+            used: 0,
+        }
     }
 
     pub(crate) fn is_empty(&self) -> bool

@@ -1,0 +1,102 @@
+// The calls of a bus.
+ghost use mathlib.Core.Path.{_≡_};
+ghost use Rattle.links.specs.Buses.{queue, roomy, Made};
+use crate::bus::Bus;
+use crate::bus::Refusal;
+use crate::entries;
+use crate::link::Link;
+use crate::refusal::fault;
+use faults::Call;
+use faults::Cause;
+use faults::Fault;
+
+impl Bus {
+    // An empty bus for 1 to 16 boards, over a list of at least 66 words.
+    pub fn new(boards: usize, words: Vec<u32>) -> Result<Bus, Refusal>
+        ensures answer { λ r. ⌜ Made boards words r ⌝ }
+    {
+        if boards < 1 || boards > 16 {
+            return Err(Refusal {
+                words,
+                fault: fault(Call::Make, Cause::Board { number: boards }),
+            });
+        }
+        if words.len() < 66 {
+            return Err(Refusal {
+                words,
+                fault: fault(Call::Make, Cause::Length { due: 66 }),
+            });
+        }
+        Ok(Bus {
+            boards,
+            words,
+            used: 0,
+        })
+    }
+
+    // Ends the bus, and gives its list back.
+    pub fn into_words(self) -> Vec<u32>
+        ensures value { λ r. ⌜ r ≡ self .words ⌝ }
+    {
+        let Bus {
+            boards: _,
+            words,
+            used: _,
+        } = self;
+        words
+    }
+}
+
+pub impl Link for Bus as BusLink {
+    ghost boards = { λ s. s .boards };
+
+    ghost waiting = { queue };
+
+    ghost ready = { roomy };
+
+    fn board_count(&self) -> usize {
+        self.boards
+    }
+
+    fn put(&mut self, board: usize, frame: &[u32]) -> Result<(), Fault> {
+        if board >= self.boards {
+            return Err(fault(Call::Put, Cause::Board { number: board }));
+        }
+        if frame.len() < 1 || frame.len() > 64 {
+            return Err(fault(Call::Put, Cause::Length { due: 64 }));
+        }
+        let used = self.used;
+        if self.words.len() - used < 66 {
+            return Err(fault(Call::Put, Cause::Closed { board }));
+        }
+        entries::write(&mut self.words, used, board as u32, frame);
+        self.used = used + 2 + frame.len();
+        Ok(())
+    }
+
+    fn look(&self, board: usize, buffer: &mut [u32]) -> Result<usize, Fault> {
+        if board >= self.boards {
+            return Err(fault(Call::Look, Cause::Board { number: board }));
+        }
+        if buffer.len() < 64 {
+            return Err(fault(Call::Look, Cause::Length { due: 64 }));
+        }
+        let log = &self.words[0..self.used];
+        let Some(at) = entries::find(log, board as u32) else {
+            return Err(fault(Call::Look, Cause::Nothing { board }));
+        };
+        Ok(entries::copy(log, at, buffer))
+    }
+
+    fn discard(&mut self, board: usize) -> Result<(), Fault> {
+        if board >= self.boards {
+            return Err(fault(Call::Drop, Cause::Board { number: board }));
+        }
+        let used = self.used;
+        let Some(at) = entries::find(&self.words[0..used], board as u32) else {
+            return Err(fault(Call::Drop, Cause::Nothing { board }));
+        };
+        self.used = entries::remove(&mut self.words, used, at);
+        Ok(())
+    }
+}
