@@ -5,4 +5,5 @@ pub mod Refilled
 pub mod Refused
 pub mod Searched
 pub mod Tables
+pub mod Weighed
 pub mod Written

@@ -2,14 +2,16 @@
 --     log s             the used part of the list
 --     queue s k         the frames that wait for board k: those of the entries for k
 --     roomy s k         whether board k is open: the used part leaves 66 words or more, whichever board it is
+--     taken n w         the words that the lists w of n boards take, each frame behind its receiver and length
+--     Free s free       free words are left beside what the lists take, and openness is read off them
 --     New-bus n w s     s is for n boards over the list w, and nothing waits
 --     Made n w r        the answer r to the making of a bus for n boards over the list w
 use mathlib.Core.Bool.{Bool}
-use mathlib.Core.List.{List, []}
+use mathlib.Core.List.{List, [], _∷_}
 use mathlib.Core.Path.{_≡_}
-use Prim.Native.Nat.{ℕ, _+_}
+use Prim.Native.Nat.{ℕ, zero, suc, _+_}
 use lib.Dec.{leb}
-use lib.ListN.{take}
+use lib.ListN.{length, take}
 use Rattle.std.specs.Of.Vec.{vec-items, vec-len}
 use Rattle.std.specs.OverHeap.{Vec}
 use Rattle.std.specs.Results.{Cases}
@@ -30,6 +32,18 @@ queue s k = addressed k (entries (log s))
 
 abbrev pub roomy : Bus → ℕ → Bool
 roomy s k = leb (s .used + 66) (vec-len (s .words))
+
+abbrev pub weight : List (List ℕ) → ℕ
+weight [] = 0
+weight (f ∷ fs) = 2 + length f + weight fs
+
+abbrev pub taken : ℕ → (ℕ → List (List ℕ)) → ℕ
+taken zero w = 0
+taken (suc n) w = weight (w n) + taken n w
+
+pub record Free (s : Bus) (free : ℕ) : Type 0 where
+  pub rest : taken (s .boards) (queue s) + free ≡ vec-len (s .words)
+  pub opens : (k : ℕ) → roomy s k ≡ leb 66 free
 
 pub record New-bus (n : ℕ) (words : Vec ℕ) (s : Bus) : Type 0 where
   pub count : s .boards ≡ n

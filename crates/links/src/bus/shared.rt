@@ -1,6 +1,9 @@
 // The calls of a bus.
 ghost use mathlib.Core.Path.{_≡_};
-ghost use Rattle.links.specs.Buses.{queue, roomy, Made};
+ghost use Prim.Native.Nat.{_+_};
+ghost use Rattle.std.specs.Of.Vec.{vec-len};
+ghost use Rattle.links.specs.Buses.{queue, roomy, Free, Made};
+ghost use Rattle.links.specs.Calls.{Put, Drop as Removal};
 use crate::bus::Bus;
 use crate::bus::Refusal;
 use crate::entries;
@@ -34,6 +37,14 @@ impl Bus {
         })
     }
 
+    // How many words are free. Every board is open while these are 66 or more.
+    pub fn room(&self) -> usize
+        ensures value { λ r. ⌜ Free (now (self .entry)) r ⌝ }
+        ensures rest { λ r. ⌜ now (self .entry) .used + r ≡ vec-len (now (self .entry) .words) ⌝ }
+    {
+        self.words.len() - self.used
+    }
+
     // Ends the bus, and gives its list back.
     pub fn into_words(self) -> Vec<u32>
         ensures value { λ r. ⌜ r ≡ self .words ⌝ }
@@ -58,17 +69,20 @@ pub impl Link for Bus as BusLink {
         self.boards
     }
 
-    fn put(&mut self, board: usize, frame: &[u32]) -> Result<(), Fault> {
+    fn put(&mut self, board: usize, frame: &[u32]) -> Result<(), Fault>
+        ensures answer { λ r. ⌜ Put (λ (s : Bus). s .boards) queue roomy (now (self .entry)) board (now (frame .entry)) r (now (self .exit)) ⌝ }
+        ensures capacity { λ _. ⌜ vec-len (now (self .exit) .words) ≡ vec-len (now (self .entry) .words) ⌝ }
+    {
         if board >= self.boards {
             return Err(fault(Call::Put, Cause::Board { number: board }));
         }
         if frame.len() < 1 || frame.len() > 64 {
             return Err(fault(Call::Put, Cause::Length { due: 64 }));
         }
-        let used = self.used;
-        if self.words.len() - used < 66 {
+        if self.room() < 66 {
             return Err(fault(Call::Put, Cause::Closed { board }));
         }
+        let used = self.used;
         entries::write(&mut self.words, used, board as u32, frame);
         self.used = used + 2 + frame.len();
         Ok(())
@@ -88,7 +102,10 @@ pub impl Link for Bus as BusLink {
         Ok(entries::copy(log, at, buffer))
     }
 
-    fn discard(&mut self, board: usize) -> Result<(), Fault> {
+    fn discard(&mut self, board: usize) -> Result<(), Fault>
+        ensures answer { λ r. ⌜ Removal (λ (s : Bus). s .boards) queue (now (self .entry)) board r (now (self .exit)) ⌝ }
+        ensures capacity { λ _. ⌜ vec-len (now (self .exit) .words) ≡ vec-len (now (self .entry) .words) ⌝ }
+    {
         if board >= self.boards {
             return Err(fault(Call::Drop, Cause::Board { number: board }));
         }
