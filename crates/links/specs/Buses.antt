@@ -20,6 +20,7 @@ use Rattle.std.specs.declared.result.Result.{Result}
 use Rattle.faults.specs.declared.fault.Call.the-variants.{Make}
 use Rattle.faults.specs.declared.fault.Layer.the-variants.{Links}
 use Rattle.links.specs.Entries.{entries, addressed}
+use Rattle.links.specs.Frames.{most-entry}
 use Rattle.links.specs.Refusals.{bus-refusal}
 use Rattle.links.specs.declared.bus.Bus.{Bus}
 use Rattle.links.specs.declared.bus.Refusal.{Refusal}
@@ -31,7 +32,7 @@ abbrev pub queue : Bus → ℕ → List (List ℕ)
 queue s k = addressed k (entries (log s))
 
 abbrev pub roomy : Bus → ℕ → Bool
-roomy s k = leb (s .used + 66) (vec-len (s .words))
+roomy s k = leb (s .used + most-entry) (vec-len (s .words))
 
 abbrev pub weight : List (List ℕ) → ℕ
 weight [] = 0
@@ -43,7 +44,7 @@ taken (suc n) w = weight (w n) + taken n w
 
 pub record Free (s : Bus) (free : ℕ) : Type 0 where
   pub rest : taken (s .boards) (queue s) + free ≡ vec-len (s .words)
-  pub opens : (k : ℕ) → roomy s k ≡ leb 66 free
+  pub opens : (k : ℕ) → roomy s k ≡ leb most-entry free
 
 pub record New-bus (n : ℕ) (words : Vec ℕ) (s : Bus) : Type 0 where
   pub count : s .boards ≡ n

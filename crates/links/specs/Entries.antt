@@ -12,6 +12,7 @@ use mathlib.Core.Path.{_≡_}
 use Prim.Native.Nat.{ℕ, zero, suc, _+_, _≤_}
 use lib.Dec.{eqb, leb, ltb}
 use lib.ListN.{length, getD, take, drop}
+use Rattle.links.specs.Frames.{most-words}
 
 pub record Entry : Type 0 where
   pub receiver : ℕ
@@ -38,7 +39,7 @@ addressed k (e ∷ es) = cond (eqb k (e .receiver)) (e .frame ∷ addressed k es
 
 abbrev pub lawful : ℕ → List Entry → Bool
 lawful n [] = true
-lawful n (e ∷ es) = (ltb (e .receiver) n && (leb 1 (length (e .frame)) && leb (length (e .frame)) 64)) && lawful n es
+lawful n (e ∷ es) = (ltb (e .receiver) n && (leb 1 (length (e .frame)) && leb (length (e .frame)) most-words)) && lawful n es
 
 pub record Whole (n : ℕ) (xs : List ℕ) : Type 0 where
   pub kept : laid (entries xs) ≡ xs
@@ -52,5 +53,5 @@ pub record Found (b : ℕ) (xs : List ℕ) (at : ℕ) : Type 0 where
   pub place : length (laid before) ≡ at
   pub first : addressed b before ≡ []
   pub size : getD xs (at + 1) 0 ≡ length frame
-  pub short : length frame ≤ 64
+  pub short : length frame ≤ most-words
   pub inside : at + 2 + length frame ≤ length xs

@@ -1,4 +1,7 @@
 -- Frames, and the lists of frames that wait for boards, oldest first. Assumes nothing.
+--     most-boards             the most boards that a link serves
+--     most-words              the most words that a frame has
+--     most-entry              the same behind two more, its receiver and its length
 --     Frame f                 f has 1 to 64 words
 --     oldest fs, younger fs   the first frame of a list and those after it; both are empty where nothing waits
 --     appended w b f          the lists w with f as the youngest frame of board b
@@ -11,8 +14,17 @@ use Prim.Native.Nat.{ℕ, _≤_, _<_}
 use lib.Dec.{eqb}
 use lib.ListN.{length}
 
+abbrev pub most-boards : ℕ
+most-boards = 16
+
+abbrev pub most-words : ℕ
+most-words = 64
+
+abbrev pub most-entry : ℕ
+most-entry = 66
+
 abbrev pub Frame : List ℕ → Type 0
-Frame f = (1 ≤ length f) × (length f ≤ 64)
+Frame f = (1 ≤ length f) × (length f ≤ most-words)
 
 abbrev pub Frames : List (List ℕ) → Type 0
 Frames [] = Unit {0}

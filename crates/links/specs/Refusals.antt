@@ -11,19 +11,19 @@ use Rattle.std.specs.declared.option.Option.{Option}
 use Rattle.std.specs.declared.option.Option.the-variants.{None, Some}
 use Rattle.faults.specs.declared.cause.Cause.{Cause}
 use Rattle.faults.specs.declared.cause.Cause.the-variants.{Board, Length, Nothing, Closed}
-use Rattle.links.specs.Frames.{none-waits}
+use Rattle.links.specs.Frames.{most-boards, most-words, most-entry, none-waits}
 
 abbrev pub put-refusal : ℕ → Bool → ℕ → ℕ → Option Cause
 put-refusal n is-open board len =
     cond (not (ltb board n)) (Some (Board board))
-    (cond (not (leb 1 len && leb len 64)) (Some (Length 64))
+    (cond (not (leb 1 len && leb len most-words)) (Some (Length most-words))
     (cond (not is-open) (Some (Closed board))
     None))
 
 abbrev pub look-refusal : ℕ → ℕ → ℕ → List (List ℕ) → Option Cause
 look-refusal n board room waiting =
     cond (not (ltb board n)) (Some (Board board))
-    (cond (ltb room 64) (Some (Length 64))
+    (cond (ltb room most-words) (Some (Length most-words))
     (cond (none-waits waiting) (Some (Nothing board))
     None))
 
@@ -34,10 +34,10 @@ drop-refusal n board waiting =
     None)
 
 abbrev pub crossbar-refusal : ℕ → Option Cause
-crossbar-refusal n = cond (not (leb 1 n && leb n 16)) (Some (Board n)) None
+crossbar-refusal n = cond (not (leb 1 n && leb n most-boards)) (Some (Board n)) None
 
 abbrev pub bus-refusal : ℕ → ℕ → Option Cause
 bus-refusal n len =
-    cond (not (leb 1 n && leb n 16)) (Some (Board n))
-    (cond (ltb len 66) (Some (Length 66))
+    cond (not (leb 1 n && leb n most-boards)) (Some (Board n))
+    (cond (ltb len most-entry) (Some (Length most-entry))
     None)

@@ -5,7 +5,11 @@ ghost use Prim.Native.Nat.{ℕ, _≤_};
 ghost use lib.ListN.{length, take};
 ghost use Rattle.std.specs.Of.Vec.{vec-items, vec-len};
 ghost use Rattle.links.specs.Entries.{laid, entries, lawful};
+use crate::link::MOST_WORDS;
 use faults::Fault;
+
+// The words of the longest frame behind its receiver and its length.
+pub const MOST_ENTRY: usize = MOST_WORDS + 2;
 
 #[derive(Drop)]
 pub struct Bus {

@@ -3,11 +3,12 @@ ghost use mathlib.Core.Path.{_≡_};
 ghost use Prim.Native.Nat.{ℕ, _≤_};
 ghost use lib.ListN.{length};
 use crate::inbox::Inbox;
+use crate::link::MOST_BOARDS;
 
 #[derive(Clone, Copy)]
 pub struct Crossbar {
     boards: usize,
-    inboxes: [Inbox; 16],
+    inboxes: [Inbox; MOST_BOARDS],
     ghost within: { boards ≤ 16 },
     ghost sized: { length inboxes ≡ 16 },
 }

@@ -7,6 +7,11 @@ ghost use Rattle.links.specs.Calls.{Put, Look, Drop};
 ghost use Rattle.links.specs.Frames.{Frames, Quiet};
 use faults::Fault;
 
+// The most boards that a link serves, and the most words that a frame has.
+pub const MOST_BOARDS: usize = 16;
+
+pub const MOST_WORDS: usize = 64;
+
 pub trait Link {
     // The count of boards.
     ghost boards: { Self → ℕ };

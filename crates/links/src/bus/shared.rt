@@ -5,9 +5,12 @@ ghost use Rattle.std.specs.Of.Vec.{vec-len};
 ghost use Rattle.links.specs.Buses.{queue, roomy, Free, Made};
 ghost use Rattle.links.specs.Calls.{Put, Drop as Removal};
 use crate::bus::Bus;
+use crate::bus::MOST_ENTRY;
 use crate::bus::Refusal;
 use crate::entries;
 use crate::link::Link;
+use crate::link::MOST_BOARDS;
+use crate::link::MOST_WORDS;
 use crate::refusal::fault;
 use faults::Call;
 use faults::Cause;
@@ -18,16 +21,16 @@ impl Bus {
     pub fn new(boards: usize, words: Vec<u32>) -> Result<Bus, Refusal>
         ensures answer { λ r. ⌜ Made boards words r ⌝ }
     {
-        if boards < 1 || boards > 16 {
+        if boards < 1 || boards > MOST_BOARDS {
             return Err(Refusal {
                 words,
                 fault: fault(Call::Make, Cause::Board { number: boards }),
             });
         }
-        if words.len() < 66 {
+        if words.len() < MOST_ENTRY {
             return Err(Refusal {
                 words,
-                fault: fault(Call::Make, Cause::Length { due: 66 }),
+                fault: fault(Call::Make, Cause::Length { due: MOST_ENTRY }),
             });
         }
         Ok(Bus {
@@ -76,10 +79,10 @@ pub impl Link for Bus as BusLink {
         if board >= self.boards {
             return Err(fault(Call::Put, Cause::Board { number: board }));
         }
-        if frame.len() < 1 || frame.len() > 64 {
-            return Err(fault(Call::Put, Cause::Length { due: 64 }));
+        if frame.len() < 1 || frame.len() > MOST_WORDS {
+            return Err(fault(Call::Put, Cause::Length { due: MOST_WORDS }));
         }
-        if self.room() < 66 {
+        if self.room() < MOST_ENTRY {
             return Err(fault(Call::Put, Cause::Closed { board }));
         }
         let used = self.used;
@@ -92,8 +95,8 @@ pub impl Link for Bus as BusLink {
         if board >= self.boards {
             return Err(fault(Call::Look, Cause::Board { number: board }));
         }
-        if buffer.len() < 64 {
-            return Err(fault(Call::Look, Cause::Length { due: 64 }));
+        if buffer.len() < MOST_WORDS {
+            return Err(fault(Call::Look, Cause::Length { due: MOST_WORDS }));
         }
         let log = &self.words[0..self.used];
         let Some(at) = entries::find(log, board as u32) else {

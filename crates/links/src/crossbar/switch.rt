@@ -10,6 +10,8 @@ ghost use Rattle.links.specs.Refusals.{crossbar-refusal};
 use crate::crossbar::Crossbar;
 use crate::inbox::Inbox;
 use crate::link::Link;
+use crate::link::MOST_BOARDS;
+use crate::link::MOST_WORDS;
 use crate::refusal::fault;
 use faults::Call;
 use faults::Cause;
@@ -20,12 +22,12 @@ impl Crossbar {
     pub fn new(boards: usize) -> Result<Crossbar, Fault>
         ensures answer { λ r. ⌜ Answers Links Make (crossbar-refusal boards) r (New-crossbar boards) (Unit {0}) ⌝ }
     {
-        if boards < 1 || boards > 16 {
+        if boards < 1 || boards > MOST_BOARDS {
             return Err(fault(Call::Make, Cause::Board { number: boards }));
         }
         Ok(Crossbar {
             boards,
-            inboxes: [Inbox::empty(); 16],
+            inboxes: [Inbox::empty(); MOST_BOARDS],
         })
     }
 }
@@ -45,8 +47,8 @@ pub impl Link for Crossbar as CrossbarLink {
         if board >= self.boards {
             return Err(fault(Call::Put, Cause::Board { number: board }));
         }
-        if frame.len() < 1 || frame.len() > 64 {
-            return Err(fault(Call::Put, Cause::Length { due: 64 }));
+        if frame.len() < 1 || frame.len() > MOST_WORDS {
+            return Err(fault(Call::Put, Cause::Length { due: MOST_WORDS }));
         }
         let inboxes = &self.inboxes[..];
         if !inboxes[board].is_empty() {
@@ -61,8 +63,8 @@ pub impl Link for Crossbar as CrossbarLink {
         if board >= self.boards {
             return Err(fault(Call::Look, Cause::Board { number: board }));
         }
-        if buffer.len() < 64 {
-            return Err(fault(Call::Look, Cause::Length { due: 64 }));
+        if buffer.len() < MOST_WORDS {
+            return Err(fault(Call::Look, Cause::Length { due: MOST_WORDS }));
         }
         let inboxes = &self.inboxes[..];
         let inbox = &inboxes[board];

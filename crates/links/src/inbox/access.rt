@@ -6,13 +6,14 @@ ghost use lib.ListN.{length, take, drop};
 ghost use Rattle.links.specs.Frames.{none-waits};
 ghost use Rattle.links.specs.Held.{held};
 use crate::inbox::Inbox;
+use crate::link::MOST_WORDS;
 
 impl Inbox {
     pub(crate) fn empty() -> Self
         ensures { λ r. ⌜ held (r .words) (r .used) ≡ [] ⌝ }
     {
         Inbox {
-            words: [0; 64],
+            words: [0; MOST_WORDS],
             used: 0,
         }
     }
