@@ -1,0 +1,59 @@
+// A plain model of a link: every frame that was put and not dropped, in the order of the puts.
+use faults::Call;
+use faults::Cause;
+use faults::Fault;
+use faults::Layer;
+
+// A frame goes by its number, from which its words follow.
+#[derive(Clone, Copy, Drop)]
+pub struct Sent {
+    pub board: usize,
+    pub number: u32,
+}
+
+#[derive(Clone, Copy)]
+pub enum Kind {
+    Bus { words: usize },
+    Crossbar,
+}
+
+pub fn fault(call: Call, cause: Cause) -> Fault {
+    Fault {
+        layer: Layer::Links,
+        call,
+        cause,
+    }
+}
+
+// How many words the frame of a number has: 1 to 64.
+pub fn frame_len(number: u32) -> usize {
+    1 + (number as usize * 7) % 64
+}
+
+pub fn word(number: u32, i: usize) -> u32 {
+    number.wrapping_mul(1000).wrapping_add((i % 64) as u32)
+}
+
+// The place of the oldest frame for a board.
+pub fn oldest(sent: &[Sent], board: usize) -> Option<usize> {
+    for (i, s) in sent.iter().enumerate() {
+        if s.board == board {
+            return Some(i);
+        }
+    }
+    None
+}
+
+// Whether the model's link takes a frame for the board.
+pub fn is_open(kind: Kind, sent: &[Sent], board: usize) -> bool {
+    match kind {
+        Kind::Bus { words } => {
+            let mut used: usize = 66;
+            for s in sent {
+                used = used.wrapping_add(2).wrapping_add(frame_len(s.number));
+            }
+            used <= words
+        }
+        Kind::Crossbar => oldest(sent, board).is_none(),
+    }
+}
