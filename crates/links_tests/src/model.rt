@@ -1,4 +1,5 @@
 // A plain model of a link: every frame that was put and not dropped, in the order of the puts.
+ghost use Prim.Native.Nat.{_≤_};
 use faults::Call;
 use faults::Cause;
 use faults::Fault;
@@ -26,12 +27,23 @@ pub fn fault(call: Call, cause: Cause) -> Fault {
 }
 
 // How many words the frame of a number has: 1 to 64.
-pub fn frame_len(number: u32) -> usize {
+pub fn frame_len(number: u32) -> usize
+    ensures within { λ r. ⌜ r ≤ 64 ⌝ }
+{
     1 + (number as usize * 7) % 64
 }
 
 pub fn word(number: u32, i: usize) -> u32 {
     number.wrapping_mul(1000).wrapping_add((i % 64) as u32)
+}
+
+// The words of a frame, and more behind them.
+pub fn words_of(number: u32) -> [u32; 64] {
+    let mut words = [0; 64];
+    for (i, w) in words.iter_mut().enumerate() {
+        *w = word(number, i);
+    }
+    words
 }
 
 // The place of the oldest frame for a board.
