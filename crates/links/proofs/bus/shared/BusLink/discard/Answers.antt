@@ -46,6 +46,6 @@ returns c =
     let ws = c .remove-self .last .words in
     let len : length ws ≡ s .words .len = c .remove-self .kept .words ∙ c .deref-mut .ensures .len in
     let x = in-log s (c .deref .result .now) b (c .in-Some .at) (c .deref .ensures .value) (c .in-Some .ensures tt) in
-    let p = drop-some (s .boards) b (queue s b) (c .if-board-self .left) (found-waits b (log s) (c .in-Some .at) x) in
+    let p = drop-some (s .boards) b (queue s b) (omega arith) (found-waits b (log s) (c .in-Some .at) x) in
     let lists = drop-lists s (c .deref-mut .result .now) ws (c .deref-mut .ensures .value) len b (c .in-Some .at) (c .remove-self .result) x (c .remove-self .ensures .after) in
     record { answer = (p, record { count = refl; lists = lists }); capacity = refl }

@@ -25,5 +25,5 @@ returns c =
     let x : Found b (log s) at = subst (λ (t : List ℕ). Found b t at) is (c .in-Some .ensures tt) in
     let size : len ≡ getD (log s) (at + 1) 0 = subst (λ (t : List ℕ). len ≡ getD t (at + 1) 0) is (c .copy .ensures .size) in
     let copied : after ≡ take len (drop (at + 2) (log s)) ++ drop len room = subst (λ (t : List ℕ). after ≡ take len (drop (at + 2) t) ++ drop len room) is (c .copy .ensures .copied) in
-    let p = look-some (s .boards) b (length room) (queue s b) (c .if-board-self .left) (c .if-buffer-lt-MOST-WORDS .left) (found-waits b (log s) at x) in
+    let p = look-some (s .boards) b (length room) (queue s b) (omega arith) (omega arith) (found-waits b (log s) at x) in
     record { answer = (p, found-looked (s .boards) b at (log s) (bus-whole s) x len room after size copied) }

@@ -15,9 +15,9 @@ ghost-self c =
     let f = c .args .frame .now in
     let ws = c .write .last .words in
     let len : length ws ≡ s .words .len = c .write .kept .words ∙ c .deref-mut .ensures .len in
-    let o : roomy s (c .args .board) ≡ true = c .room .ensures .value .opens (c .args .board) ∙ le-leb 66 (c .room .result) (c .if-room-lt-MOST-ENTRY .left) in
-    let done = put-kept s (c .deref-mut .result .now) ws (c .deref-mut .ensures .value) len (c .args .board) f (c .if-board-self .left) (c .if-frame-lt1 .left) (c .if-frame-gt-MOST-WORDS .left) (c .write .ensures) in
-    (s .within, (s .room, (omega (arith, leb-true (s .used + 66) (s .words .len) o, c .if-frame-gt-MOST-WORDS .left), (done .kept, (done .legal, tt)))))
+    let o : roomy s (c .args .board) ≡ true = c .room .ensures .value .opens (c .args .board) ∙ le-leb 66 (c .room .result) (omega arith) in
+    let done = put-kept s (c .deref-mut .result .now) ws (c .deref-mut .ensures .value) len (c .args .board) f (omega arith) (omega arith) (omega arith) (c .write .ensures) in
+    (s .within, (s .room, (omega (arith, leb-true (s .used + 66) (s .words .len) o), (done .kept, (done .legal, tt)))))
 
 pub returns : need.returns
 returns c =
@@ -25,7 +25,7 @@ returns c =
     let f = c .args .frame .now in
     let ws = c .write .last .words in
     let len : length ws ≡ s .words .len = c .write .kept .words ∙ c .deref-mut .ensures .len in
-    let o : roomy s (c .args .board) ≡ true = c .room .ensures .value .opens (c .args .board) ∙ le-leb 66 (c .room .result) (c .if-room-lt-MOST-ENTRY .left) in
-    let p = put-open (s .boards) (c .args .board) (length f) (roomy s (c .args .board)) (c .if-board-self .left) (c .if-frame-lt1 .left) (c .if-frame-gt-MOST-WORDS .left) o in
-    let lists = put-lists s (c .deref-mut .result .now) ws (c .deref-mut .ensures .value) len (c .args .board) f (c .if-board-self .left) (c .if-frame-lt1 .left) (c .if-frame-gt-MOST-WORDS .left) (c .write .ensures) in
+    let o : roomy s (c .args .board) ≡ true = c .room .ensures .value .opens (c .args .board) ∙ le-leb 66 (c .room .result) (omega arith) in
+    let p = put-open (s .boards) (c .args .board) (length f) (roomy s (c .args .board)) (omega arith) (omega arith) (omega arith) o in
+    let lists = put-lists s (c .deref-mut .result .now) ws (c .deref-mut .ensures .value) len (c .args .board) f (omega arith) (omega arith) (omega arith) (c .write .ensures) in
     record { answer = (p, record { count = refl; lists = lists }); capacity = refl }

@@ -15,10 +15,10 @@ returns-then-is-empty c =
     let s = c .args .self .now in
     let b = c .args .board in
     let x = c .index-inboxes-board .result in
-    let lt : b < length (s .inboxes) = omega (arith, s .within, s .sized, c .if-board-self .left) in
+    let lt : b < length (s .inboxes) = omega (arith, s .within, s .sized) in
     let q : queue s b ≡ content x = queue-at (s .inboxes) b x lt (c .index-inboxes-board .is) in
     let o : none-waits (queue s b) ≡ true = ap none-waits q ∙ sym (c .if-is-empty .ensures tt) in
-    let p = drop-none (s .boards) b (queue s b) (omega (arith, c .if-board-self .left)) o in
+    let p = drop-none (s .boards) b (queue s b) (omega arith) o in
     record { answer = refused-by _ _ _ _ _ p (c .fault-then-is-empty .ensures) refl }
 
 pub returns : need.returns
@@ -26,9 +26,9 @@ returns c =
     let s = c .args .self .now in
     let b = c .args .board in
     let x = c .index-inboxes-board .result in
-    let lt : b < length (s .inboxes) = omega (arith, s .within, s .sized, c .if-board-self .left) in
+    let lt : b < length (s .inboxes) = omega (arith, s .within, s .sized) in
     let q : queue s b ≡ content x = queue-at (s .inboxes) b x lt (c .index-inboxes-board .is) in
     let o : none-waits (queue s b) ≡ false = ap none-waits q ∙ sym (c .if-is-empty .ensures tt) in
-    let p = drop-some (s .boards) b (queue s b) (omega (arith, c .if-board-self .left)) o in
+    let p = drop-some (s .boards) b (queue s b) (omega arith) o in
     let y : content (c .clear .last .self) ≡ younger (queue s b) = c .clear .ensures ∙ sym (ap younger q ∙ younger-held (x .words) (x .used)) in
     record { answer = (p, record { count = refl; lists = changed-by (s .inboxes) b (c .clear .last .self) lt younger y }) }

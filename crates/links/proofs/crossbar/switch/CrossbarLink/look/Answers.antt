@@ -17,10 +17,10 @@ returns-then-is-empty c =
     let b = c .args .board in
     let room = c .args .buffer .now in
     let x = c .index-inboxes-board .result in
-    let lt : b < length (s .inboxes) = omega (arith, s .within, s .sized, c .if-board-self .left) in
+    let lt : b < length (s .inboxes) = omega (arith, s .within, s .sized) in
     let q : queue s b ≡ content x = queue-at (s .inboxes) b x lt (c .index-inboxes-board .is) in
     let o : none-waits (queue s b) ≡ true = ap none-waits q ∙ sym (c .if-is-empty .ensures tt) in
-    let p = look-none (s .boards) b (length room) (queue s b) (omega (arith, c .if-board-self .left)) (omega (arith, c .if-buffer-lt-MOST-WORDS .left)) o in
+    let p = look-none (s .boards) b (length room) (queue s b) (omega arith) (omega arith) o in
     record { answer = refused-by _ _ _ _ _ p (c .fault-then-is-empty .ensures) refl }
 
 pub returns : need.returns
@@ -30,10 +30,10 @@ returns c =
     let room = c .args .buffer .now in
     let x = c .index-inboxes-board .result in
     let after = c .copy-to .last .buffer in
-    let lt : b < length (s .inboxes) = omega (arith, s .within, s .sized, c .if-board-self .left) in
+    let lt : b < length (s .inboxes) = omega (arith, s .within, s .sized) in
     let q : queue s b ≡ content x = queue-at (s .inboxes) b x lt (c .index-inboxes-board .is) in
     let w : none-waits (content x) ≡ false = sym (c .if-is-empty .ensures tt) in
-    let p = look-some (s .boards) b (length room) (queue s b) (omega (arith, c .if-board-self .left)) (omega (arith, c .if-buffer-lt-MOST-WORDS .left)) (ap none-waits q ∙ w) in
+    let p = look-some (s .boards) b (length room) (queue s b) (omega arith) (omega arith) (ap none-waits q ∙ w) in
     let n : c .copy-to .result ≡ x .used = c .copy-to .ensures .size in
     let copied : after ≡ take (x .used) (x .words) ++ drop (x .used) room = subst (λ (k : ℕ). after ≡ take k (x .words) ++ drop k room) n (c .copy-to .ensures .copied) in
     let done : Look-done (content x) room (x .used) after = held-looked (x .words) (x .used) room after (x .sized) (x .fits) w copied in
