@@ -2,7 +2,8 @@
 --     log s             the used part of the list
 --     queue s k         the frames that wait for board k: those of the entries for k
 --     roomy s k         whether board k is open: the used part leaves 66 words or more, whichever board it is
---     taken n w         the words that the lists w of n boards take, each frame behind its receiver and length
+--     weight fs         the words that the frames fs take, each behind its receiver and length
+--     taken n w         the words that the lists w of n boards take
 --     Free s free       free words are left beside what the lists take, and openness is read off them
 --     New-bus n w s     s is for n boards over the list w, and nothing waits
 --     Made n w r        the answer r to the making of a bus for n boards over the list w

@@ -1,4 +1,5 @@
 -- What a crossbar's state says. Assumes nothing.
+--     content x            the frames that the inbox x holds
 --     queue s k            the frames that wait for board k: what its inbox holds, and none past the last inbox
 --     vacant s k           whether board k is open: its inbox is empty
 --     New-crossbar n s     s is for n boards, and nothing waits

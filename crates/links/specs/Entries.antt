@@ -1,5 +1,6 @@
 -- The entries of a bus's list: each frame behind its receiver and its length. Assumes nothing.
 --     laid es             the entries one behind another, as words
+--     read most xs        the first entries that the words xs hold, at most so many
 --     entries xs          the entries that the words xs hold; of laid words these are the entries that were laid
 --     addressed k es      the frames of the entries for board k, in their order
 --     lawful n es         each receiver is one of n boards, and each frame has 1 to 64 words

@@ -3,6 +3,8 @@
 --     most-words              the most words that a frame has
 --     most-entry              the same behind two more, its receiver and its length
 --     Frame f                 f has 1 to 64 words
+--     Frames fs               each of fs is a frame
+--     none-waits fs           whether fs is empty
 --     oldest fs, younger fs   the first frame of a list and those after it; both are empty where nothing waits
 --     appended w b f          the lists w with f as the youngest frame of board b
 --     removed w b             the lists w without the oldest frame of board b

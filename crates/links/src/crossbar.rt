@@ -5,7 +5,7 @@ ghost use lib.ListN.{length};
 use crate::inbox::Inbox;
 use crate::link::MOST_BOARDS;
 
-#[derive(Clone, Copy)]
+#[derive(Drop)]
 pub struct Crossbar {
     boards: usize,
     inboxes: [Inbox; MOST_BOARDS],

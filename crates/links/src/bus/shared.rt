@@ -3,7 +3,7 @@ ghost use mathlib.Core.Path.{_≡_};
 ghost use Prim.Native.Nat.{_+_};
 ghost use Rattle.std.specs.Of.Vec.{vec-len};
 ghost use Rattle.links.specs.Buses.{queue, roomy, Free, Made};
-ghost use Rattle.links.specs.Calls.{Put, Drop as Removal};
+ghost use Rattle.links.specs.Calls.{Put, Drop};
 use crate::bus::Bus;
 use crate::bus::MOST_ENTRY;
 use crate::bus::Refusal;
@@ -106,7 +106,7 @@ pub impl Link for Bus as BusLink {
     }
 
     fn discard(&mut self, board: usize) -> Result<(), Fault>
-        ensures answer { λ r. ⌜ Removal (λ (s : Bus). s .boards) queue (now (self .entry)) board r (now (self .exit)) ⌝ }
+        ensures answer { λ r. ⌜ Drop (λ (s : Bus). s .boards) queue (now (self .entry)) board r (now (self .exit)) ⌝ }
         ensures capacity { λ _. ⌜ vec-len (now (self .exit) .words) ≡ vec-len (now (self .entry) .words) ⌝ }
     {
         if board >= self.boards {
