@@ -7,7 +7,7 @@ ghost use Rattle.links.specs.Entries.{Whole, Found, addressed, entries};
 ghost use Rattle.std.specs.Options.{Cases};
 
 // Writes an entry from index `at` on.
-pub fn write(words: &mut [u32], at: usize, board: u32, frame: &[u32])
+pub(crate) fn write(words: &mut [u32], at: usize, board: u32, frame: &[u32])
     requires room { ⌜ at + 2 + length (now frame) ≤ length (now words) ⌝ }
     requires fits { ⌜ length (now frame) < 2 ^ 32 ⌝ }
     ensures { λ _. ⌜ now (words .exit) ≡ take at (now (words .entry)) ++ (board ∷ length (now (frame .entry)) ∷ now (frame .entry)) ++ drop (at + 2 + length (now (frame .entry))) (now (words .entry)) ⌝ }
@@ -20,7 +20,7 @@ pub fn write(words: &mut [u32], at: usize, board: u32, frame: &[u32])
 }
 
 // Removes the entry at `at` from the first `used` words, and answers how many are used then.
-pub fn remove(words: &mut [u32], used: usize, at: usize) -> usize
+pub(crate) fn remove(words: &mut [u32], used: usize, at: usize) -> usize
     requires used { ⌜ used ≤ length (now words) ⌝ }
     requires inside { ⌜ at + 2 + getD (now words) (at + 1) 0 ≤ used ⌝ }
     ensures size { λ r. ⌜ r + 2 + getD (now (words .entry)) (at + 1) 0 ≡ used ⌝ }
@@ -32,7 +32,7 @@ pub fn remove(words: &mut [u32], used: usize, at: usize) -> usize
 }
 
 // Where the first entry for a board begins.
-pub fn find(words: &[u32], board: u32) -> Option<usize>
+pub(crate) fn find(words: &[u32], board: u32) -> Option<usize>
     requires { ⌜ ((n : ℕ) × Whole n (now words)) ⌝ }
     ensures { λ r. ⌜ Cases r (addressed board (entries (now (words .entry))) ≡ []) (λ at. Found board (now (words .entry)) at) ⌝ }
 {
@@ -47,7 +47,7 @@ pub fn find(words: &[u32], board: u32) -> Option<usize>
 }
 
 // Copies the frame of the entry at `at` to the front of a buffer, and answers its length.
-pub fn copy(words: &[u32], at: usize, buffer: &mut [u32]) -> usize
+pub(crate) fn copy(words: &[u32], at: usize, buffer: &mut [u32]) -> usize
     requires inside { ⌜ at + 2 + getD (now words) (at + 1) 0 ≤ length (now words) ⌝ }
     requires room { ⌜ getD (now words) (at + 1) 0 ≤ length (now buffer) ⌝ }
     ensures size { λ r. ⌜ r ≡ getD (now (words .entry)) (at + 1) 0 ⌝ }

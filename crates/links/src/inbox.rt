@@ -5,7 +5,7 @@ ghost use lib.ListN.{length};
 use crate::link::MOST_WORDS;
 
 #[derive(Clone, Copy)]
-pub struct Inbox {
+pub(crate) struct Inbox {
     words: [u32; MOST_WORDS],
     // How many words the frame has; 0 where the inbox is empty.
     used: usize,

@@ -6,7 +6,7 @@ use faults::Cause;
 use faults::Fault;
 use faults::Layer;
 
-pub fn fault(call: Call, cause: Cause) -> Fault
+pub(crate) fn fault(call: Call, cause: Cause) -> Fault
     ensures { λ r. ⌜ r ≡ record { layer = Links; call = call; cause = cause } ⌝ }
 {
     Fault {

@@ -7,18 +7,18 @@ use faults::Layer;
 
 // A frame goes by its number, from which its words follow.
 #[derive(Clone, Copy, Drop)]
-pub struct Sent {
+pub(crate) struct Sent {
     pub board: usize,
     pub number: u32,
 }
 
 #[derive(Clone, Copy)]
-pub enum Kind {
+pub(crate) enum Kind {
     Bus { words: usize },
     Crossbar,
 }
 
-pub fn fault(call: Call, cause: Cause) -> Fault {
+pub(crate) fn fault(call: Call, cause: Cause) -> Fault {
     Fault {
         layer: Layer::Links,
         call,
@@ -27,18 +27,18 @@ pub fn fault(call: Call, cause: Cause) -> Fault {
 }
 
 // How many words the frame of a number has: 1 to 64.
-pub fn frame_len(number: u32) -> usize
+pub(crate) fn frame_len(number: u32) -> usize
     ensures within { λ r. ⌜ r ≤ 64 ⌝ }
 {
     1 + (number as usize * 7) % 64
 }
 
-pub fn word(number: u32, i: usize) -> u32 {
+pub(crate) fn word(number: u32, i: usize) -> u32 {
     number.wrapping_mul(1000).wrapping_add((i % 64) as u32)
 }
 
 // The words of a frame, and more behind them.
-pub fn words_of(number: u32) -> [u32; 64] {
+pub(crate) fn words_of(number: u32) -> [u32; 64] {
     let mut words = [0; 64];
     for (i, w) in words.iter_mut().enumerate() {
         *w = word(number, i);
@@ -47,7 +47,7 @@ pub fn words_of(number: u32) -> [u32; 64] {
 }
 
 // The place of the oldest frame for a board.
-pub fn oldest(sent: &[Sent], board: usize) -> Option<usize> {
+pub(crate) fn oldest(sent: &[Sent], board: usize) -> Option<usize> {
     for (i, s) in sent.iter().enumerate() {
         if s.board == board {
             return Some(i);
@@ -57,7 +57,7 @@ pub fn oldest(sent: &[Sent], board: usize) -> Option<usize> {
 }
 
 // Whether the model's link takes a frame for the board.
-pub fn is_open(kind: Kind, sent: &[Sent], board: usize) -> bool {
+pub(crate) fn is_open(kind: Kind, sent: &[Sent], board: usize) -> bool {
     match kind {
         Kind::Bus { words } => {
             let mut used: usize = 66;
