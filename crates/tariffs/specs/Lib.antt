@@ -1,0 +1,4 @@
+pub mod Asked
+pub mod Laws
+pub mod Plains
+pub mod Questions

@@ -1,0 +1,10 @@
+// What moving a package costs: the tariffs, and the trait that each of them meets.
+pub mod check;
+pub mod plain;
+pub mod question;
+pub mod tariff;
+
+pub use plain::Plain;
+pub use plain::PlainTariff;
+pub use question::Question;
+pub use tariff::Tariff;
