@@ -1,4 +1,5 @@
 pub mod Asked
 pub mod Laws
+pub mod Lists
 pub mod Plains
 pub mod Questions

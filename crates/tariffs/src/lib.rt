@@ -1,5 +1,6 @@
 // What moving a package costs: the tariffs, and the trait that each of them meets.
 pub mod check;
+pub mod lists;
 pub mod plain;
 pub mod question;
 pub mod tariff;

@@ -1,0 +1,5 @@
+use Rattle.tariffs.proofs.BoundedLists.{bounded-lists}
+use Rattle.tariffs.proofs.lists.bounded_lists_stand.Needs as need
+
+pub returns : need.returns
+returns c = bounded-lists
