@@ -1,5 +1,6 @@
 -- What is known of a question that is answered. The laws of each tariff rest on it.
---     few-bytes n q     an answered question has at most most-bytes
+--     passed       where the rule on top does not apply, its test passed and the rules below it decide
+--     asked n q    an answered question names two boards and has at most most-bytes
 use mathlib.Core.Bool.{Bool, true, false, cond}
 use mathlib.Core.Path.{_≡_, refl}
 use Prim.Native.Nat.{ℕ, _≤_, _<_}
@@ -16,13 +17,13 @@ use Rattle.tariffs.specs.declared.question.Question.{Question}
 never : (c : Cause) → _≡_ {A = Option Cause} (Some c) None → ⊥
 never c e = let z : _≡_ {A = ℕ} 0 1 = cc in omega arith
 
--- where the rule on top does not apply, its test passed and the rules below it decide
-passed : (b : Bool) (o : Option Cause) (c : Cause) → cond b o (Some c) ≡ None → (b ≡ true) × (o ≡ None)
+pub passed : (b : Bool) (o : Option Cause) (c : Cause) → cond b o (Some c) ≡ None → (b ≡ true) × (o ≡ None)
 passed true o c e = (refl, e)
 passed false o c e = absurd (never c e)
 
-pub few-bytes : (n : ℕ) (q : Question) → ask-refusal n q ≡ None → q .bytes ≤ most-bytes
-few-bytes n q e =
+pub asked : (n : ℕ) (q : Question) → ask-refusal n q ≡ None → (q .sender < n) × (q .receiver < n) × (q .bytes ≤ most-bytes)
+asked n q e =
     let s = passed (ltb (q .sender) n) _ _ e in
     let r = passed (ltb (q .receiver) n) _ _ (s .1) in
-    leb-true (q .bytes) most-bytes (passed (leb (q .bytes) most-bytes) _ _ (r .1) .0)
+    let b = passed (leb (q .bytes) most-bytes) _ _ (r .1) in
+    (ltb-true (q .sender) n (s .0), ltb-true (q .receiver) n (r .0), leb-true (q .bytes) most-bytes (b .0))

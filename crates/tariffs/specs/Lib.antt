@@ -3,3 +3,5 @@ pub mod Laws
 pub mod Lists
 pub mod Plains
 pub mod Questions
+pub mod TableLaws
+pub mod Tables

@@ -9,7 +9,7 @@ use native.Mathlib.Omega.{arith}
 use lib.Dec.{eqb}
 use Rattle.std.proofs.shelf.Tests.{cond-both}
 use Rattle.std.specs.declared.option.Option.the-variants.{None}
-use Rattle.tariffs.specs.Asked.{few-bytes}
+use Rattle.tariffs.specs.Asked.{asked}
 use Rattle.tariffs.specs.Laws.{Laws, highest-price}
 use Rattle.tariffs.specs.Questions.{ask-refusal}
 use Rattle.tariffs.specs.declared.question.Question.{Question}
@@ -22,6 +22,6 @@ plain-laws n l m =
     record {
       least = l;
       most = m;
-      capped = λ q a. let b = few-bytes n q a in cond-both (eqb (q .sender) (q .receiver)) 0 (q .bytes) (λ p. p ≤ highest-price) (λ _. omega arith) (λ _. omega arith);
+      capped = λ q a. let b = asked n q a .2 in cond-both (eqb (q .sender) (q .receiver)) 0 (q .bytes) (λ p. p ≤ highest-price) (λ _. omega arith) (λ _. omega arith);
       free = λ q a z. cond-both (eqb (q .sender) (q .receiver)) 0 (q .bytes) (λ p. p ≡ 0) (λ _. refl) (λ _. z);
     }
