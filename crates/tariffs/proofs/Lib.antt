@@ -1,2 +1,3 @@
 pub mod BoundedLists
+pub mod ChargeTables
 pub mod Refusals

@@ -3,5 +3,7 @@ pub mod Laws
 pub mod Lists
 pub mod Plains
 pub mod Questions
+pub mod SurchargeLaws
+pub mod Surcharges
 pub mod TableLaws
 pub mod Tables
