@@ -12,6 +12,7 @@ use Rattle.std.proofs.shelf.Lists.{at-drop-more, at-drop-all}
 use Rattle.std.proofs.shelf.Tests.{and-from, and-parts, and-left, and-right, ltb-true, leb-true, eqb-true, lt-ltb, le-ltb, le-leb, lt-leb, eq-eqb, ne-eqb, cond-true, cond-false}
 use Rattle.std.specs.declared.option.Option.{Option}
 use Rattle.std.specs.declared.option.Option.the-variants.{None, Some}
+use Rattle.faults.proofs.WrongLists.{wrong-lists}
 use Rattle.faults.specs.Lists.{wrong-from, first-wrong, Completes}
 use Rattle.tariffs.specs.Lists.{bounded, limits, Bounded-lists}
 
@@ -72,5 +73,8 @@ module _ (len : ℕ) (limit : ℕ → ℕ) where
       let l = legal-from xs 0 None e in
       (omega (arith, l .0), λ i. subst (λ k. getD xs i 0 ≤ limit k) (zero-add i) (l .1 i))
 
+pub bounded-completes : (len : ℕ) (limit : ℕ → ℕ) → Completes (bounded len limit)
+bounded-completes len limit k before x t = zeros len limit (len - (k + 1)) (k + 1) x (omega (arith, ltb-true k len (and-parts (ltb k len) (leb x (limit k)) t .0)))
+
 pub bounded-lists : Bounded-lists
-bounded-lists len limit k before x t = zeros len limit (len - (k + 1)) (k + 1) x (omega (arith, ltb-true k len (and-parts (ltb k len) (leb x (limit k)) t .0)))
+bounded-lists len limit = (bounded-completes len limit, wrong-lists (bounded len limit) (bounded-completes len limit))

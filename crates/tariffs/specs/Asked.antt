@@ -1,4 +1,4 @@
--- What is known of a question that is answered. The laws of each tariff rest on it.
+-- What is known of a question that is answered; a proof, which the laws of each tariff rest on.
 --     passed       where the rule on top does not apply, its test passed and the rules below it decide
 --     asked n q    an answered question names two boards and has at most most-bytes
 use mathlib.Core.Bool.{Bool, true, false, cond}

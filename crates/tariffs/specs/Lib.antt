@@ -1,6 +1,7 @@
 pub mod Asked
 pub mod Laws
 pub mod Lists
+pub mod PlainLaws
 pub mod Plains
 pub mod Questions
 pub mod SurchargeLaws

@@ -1,4 +1,5 @@
--- The laws of tariffs hold of a surcharge over any tariff that they hold of.
+-- The laws of tariffs hold of a surcharge over any tariff that they hold of; a proof, which the trait's ghost member
+-- cites.
 --     surcharge-laws     the laws, from those of the tariff below
 use mathlib.Core.Bool.{cond}
 use mathlib.Core.List.{List}

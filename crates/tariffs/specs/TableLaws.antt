@@ -1,4 +1,5 @@
--- The laws of tariffs hold of a table whose entries are within their limits.
+-- The laws of tariffs hold of a table whose entries are within their limits; a proof, which the trait's ghost
+-- member cites.
 --     table-laws n xs      the laws, for n boards and the list xs
 use mathlib.Core.Bool.{cond}
 use mathlib.Core.List.{List}

@@ -6,8 +6,10 @@
 --     table-refusal n xs                why the list xs makes no tariff for n boards, if there is a cause
 --     cell n q                          the place of the question's sender and receiver in either half
 --     table-price n xs q                the price of q: latency and bytes, where there are bytes at all
+--     Sample-price                      12 bytes at a latency of 100 and 3 for each byte cost 136
 use mathlib.Core.Bool.{cond}
 use mathlib.Core.List.{List}
+use mathlib.Core.Path.{_≡_}
 use Prim.Native.Nat.{ℕ, _+_, _*_}
 use lib.Dec.{eqb}
 use lib.ListN.{getD}
@@ -39,3 +41,11 @@ cell n q = q .sender * n + q .receiver
 
 abbrev pub table-price : ℕ → List ℕ → Question → ℕ
 table-price n xs q = cond (eqb (q .bytes) 0) 0 (getD xs (cell n q) 0 + getD xs (n * n + cell n q) 0 * q .bytes)
+
+abbrev pub Sample-price : Type 0
+Sample-price =
+    (n : ℕ) (xs : List ℕ) (q : Question)
+    → getD xs (cell n q) 0 ≡ 100
+    → getD xs (n * n + cell n q) 0 ≡ 3
+    → q .bytes ≡ 12
+    → table-price n xs q ≡ 136

@@ -7,16 +7,15 @@ ghost use Rattle.faults.specs.declared.fault.Call.{Call};
 ghost use Rattle.faults.specs.declared.fault.Layer.{Layer};
 ghost use Rattle.tariffs.specs.Lists.{list-refusal};
 ghost use Rattle.tariffs.specs.Surcharges.{charge-rule, charge-table};
+use crate::limits::MOST_BOARDS;
+use crate::limits::MOST_CHARGE;
 use crate::lists::check_list;
 use crate::tariff::Tariff;
 use faults::Fault;
 
-// The highest charge for a byte.
-pub const MOST_CHARGE: u32 = 1000;
-
 #[derive(Clone, Copy)]
 pub struct Charges {
-    pub(crate) table: [u32; 16],
+    pub(crate) table: [u32; MOST_BOARDS],
     ghost sized: { length table ≡ 16 },
     ghost bounded: { (k : ℕ) → getD table k 0 ≤ 1000 },
 }
@@ -39,11 +38,11 @@ fn charged(boards: usize, list: &[u32]) -> Result<Charges, Fault>
 }
 
 // The list with zeros after it.
-fn filled(list: &[u32]) -> [u32; 16]
+fn filled(list: &[u32]) -> [u32; MOST_BOARDS]
     requires fits { ⌜ length (now list) ≤ 16 ⌝ }
     ensures table { λ r. ⌜ r ≡ charge-table (length (now (list .entry))) (now (list .entry)) ⌝ }
 {
-    let mut table = [0; 16];
+    let mut table = [0; MOST_BOARDS];
     table[0..list.len()].copy_from_slice(list);
     table
 }

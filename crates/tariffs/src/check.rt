@@ -4,17 +4,13 @@ ghost use Rattle.faults.specs.Answers.{Answers};
 ghost use Rattle.faults.specs.declared.fault.Call.{Call};
 ghost use Rattle.faults.specs.declared.fault.Layer.{Layer};
 ghost use Rattle.tariffs.specs.Questions.{ask-refusal, boards-refusal};
+use crate::limits::MOST_BOARDS;
+use crate::limits::MOST_BYTES;
 use crate::question::Question;
 use faults::Call;
 use faults::Cause;
 use faults::Fault;
 use faults::Layer;
-
-// The highest count of boards.
-pub const MOST_BOARDS: usize = 16;
-
-// The highest number of bytes of one package.
-pub const MOST_BYTES: usize = 16777216;
 
 impl Question {
     // Refuses what no tariff for `boards` boards answers.

@@ -1,6 +1,7 @@
 // What moving a package costs: the tariffs, and the trait that each of them meets.
 pub mod charges;
 pub mod check;
+pub mod limits;
 pub mod lists;
 pub mod plain;
 pub mod question;

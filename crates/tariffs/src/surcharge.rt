@@ -3,12 +3,10 @@ ghost use mathlib.Core.Path.{_≡_};
 ghost use Rattle.tariffs.specs.SurchargeLaws.{surcharge-laws};
 ghost use Rattle.tariffs.specs.Surcharges.{surcharge-price};
 use crate::charges::Charges;
+use crate::limits::MOST_PRICE;
 use crate::question::Question;
 use crate::tariff::Tariff;
 use faults::Fault;
-
-// The price that none exceeds.
-pub const MOST_PRICE: u64 = 1099511627776;
 
 #[derive(Clone, Copy)]
 pub struct Surcharge<T> {

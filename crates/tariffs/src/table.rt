@@ -7,19 +7,15 @@ ghost use Rattle.std.specs.declared.option.Option.the-variants.{None};
 ghost use Rattle.faults.specs.Answers.{Answers};
 ghost use Rattle.faults.specs.declared.fault.Call.{Call};
 ghost use Rattle.faults.specs.declared.fault.Layer.{Layer};
-ghost use Rattle.tariffs.specs.Tables.{price-limit, table-refusal, table-price};
+ghost use Rattle.tariffs.specs.Tables.{Sample-price, price-limit, table-refusal, table-price};
 ghost use Rattle.tariffs.specs.TableLaws.{table-laws};
 use crate::check::check_boards;
+use crate::limits::MOST_LATENCY;
+use crate::limits::MOST_RATE;
 use crate::lists::check_list;
 use crate::question::Question;
 use crate::tariff::Tariff;
 use faults::Fault;
-
-// The highest latency.
-pub const MOST_LATENCY: u32 = 1000000000;
-
-// The highest price of a byte.
-pub const MOST_RATE: u32 = 10000;
 
 #[derive(Clone, Copy)]
 pub struct Table<'a> {
@@ -73,4 +69,11 @@ pub impl<'a> Tariff for Table<'a> as TableTariff {
         let rate = self.prices[latencies + cell] as u64;
         Ok(latency + rate * question.bytes as u64)
     }
+}
+
+// Names a worked example of the definition. It answers true.
+pub fn sample_price_stands() -> bool
+    ensures { λ _. ⌜ Sample-price ⌝ }
+{
+    true
 }
