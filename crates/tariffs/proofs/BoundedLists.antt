@@ -32,7 +32,7 @@ module _ (len : ℕ) (limit : ℕ → ℕ) where
       → wrong-from (bounded len limit) k None (drop k xs) ≡ Some k
   scan-stops xs k l w =
       let f : (ltb k len && leb (getD xs k 0) (limit k)) ≡ false =
-          ⊎-elim (λ h. and-left (ltb k len) (leb (getD xs k 0) (limit k)) (le-ltb k len h)) (λ h. and-right (ltb k len) (leb (getD xs k 0) (limit k)) (lt-leb (getD xs k 0) (limit k) h)) w
+      ⊎-elim (λ h. and-left (ltb k len) (leb (getD xs k 0) (limit k)) (le-ltb k len h)) (λ h. and-right (ltb k len) (leb (getD xs k 0) (limit k)) (lt-leb (getD xs k 0) (limit k) h)) w
       in
       at-drop-more (wrong-from (bounded len limit) k None) xs k 0 l ∙ rw f refl
 

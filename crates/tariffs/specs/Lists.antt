@@ -29,4 +29,4 @@ abbrev pub Bounded-lists : Type 0
 Bounded-lists =
     (len : ℕ) (limit : ℕ → ℕ)
     → Completes (bounded len limit)
-      × ((xs : List ℕ) (i : ℕ) → first-wrong (bounded len limit) xs ≡ Some i → WrongAt (bounded len limit) xs i)
+    × ((xs : List ℕ) (i : ℕ) → first-wrong (bounded len limit) xs ≡ Some i → WrongAt (bounded len limit) xs i)

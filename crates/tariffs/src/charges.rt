@@ -34,7 +34,9 @@ fn charged(boards: usize, list: &[u32]) -> Result<Charges, Fault>
     ensures answer { λ r. ⌜ Answers Layer.Tariffs Call.Make (list-refusal (charge-rule boards) (now (list .entry))) r (λ c. c .table ≡ charge-table boards (now (list .entry))) (Unit {0}) ⌝ }
 {
     check_charges(boards, list)?;
-    Ok(Charges { table: filled(list) })
+    Ok(Charges {
+        table: filled(list),
+    })
 }
 
 // The list with zeros after it.

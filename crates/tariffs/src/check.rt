@@ -18,9 +18,13 @@ impl Question {
         ensures answer { λ r. ⌜ Answers Layer.Tariffs Call.Ask (ask-refusal boards self) r (λ _. Unit {0}) (Unit {0}) ⌝ }
     {
         let cause = if self.sender >= boards {
-            Cause::Board { number: self.sender }
+            Cause::Board {
+                number: self.sender,
+            }
         } else if self.receiver >= boards {
-            Cause::Board { number: self.receiver }
+            Cause::Board {
+                number: self.receiver,
+            }
         } else if self.bytes > MOST_BYTES {
             Cause::Beyond { index: 0 }
         } else {
@@ -45,5 +49,9 @@ pub(crate) fn refused(call: Call, cause: Cause) -> Fault
     ensures named { λ r. ⌜ r .call ≡ call ⌝ }
     ensures caused { λ r. ⌜ r .cause ≡ cause ⌝ }
 {
-    Fault { layer: Layer::Tariffs, call, cause }
+    Fault {
+        layer: Layer::Tariffs,
+        call,
+        cause,
+    }
 }

@@ -12,7 +12,13 @@ use faults::Fault;
 
 // Refuses a list that is wrong, with the first wrong index: `len` numbers, the first `head` at most `high` and the
 // others at most `low`.
-pub(crate) fn check_list(list: &[u32], len: usize, head: usize, high: u32, low: u32) -> Result<(), Fault>
+pub(crate) fn check_list(
+    list: &[u32],
+    len: usize,
+    head: usize,
+    high: u32,
+    low: u32,
+) -> Result<(), Fault>
     ensures answer { λ r. ⌜ Answers Layer.Tariffs Call.Make (list-refusal (bounded len (limits head high low)) (now (list .entry))) r (λ _. Unit {0}) (Unit {0}) ⌝ }
 {
     match wrong_index(list, len, head, high, low) {
@@ -39,11 +45,7 @@ fn wrong_index(list: &[u32], len: usize, head: usize, high: u32, low: u32) -> Op
 fn limit_at(k: usize, head: usize, high: u32, low: u32) -> u32
     ensures value { λ r. ⌜ r ≡ limits head high low k ⌝ }
 {
-    if k < head {
-        high
-    } else {
-        low
-    }
+    if k < head { high } else { low }
 }
 
 // Names the fact that lets the law of wrong lists speak of price lists and charges. It answers true.

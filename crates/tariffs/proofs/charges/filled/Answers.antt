@@ -11,7 +11,7 @@ returns c =
     let xs = c .args .list .now in
     record {
       table =
-        ap (λ t. t ++ drop (length xs - 0) (replicate 16 0)) (c .copy-from-slice .ensures .after)
+          ap (λ t. t ++ drop (length xs - 0) (replicate 16 0)) (c .copy-from-slice .ensures .after)
           ∙ ap (λ n. xs ++ drop n (replicate 16 0)) (sub-zero (length xs))
           ∙ table-from xs (length xs);
     }

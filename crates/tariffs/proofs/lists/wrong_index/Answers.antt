@@ -13,8 +13,8 @@ pub returns-then-k-len : need.returns-then-k-len
 returns-then-k-len c =
     record {
       value =
-        sym
-        (c .loop-k .inv
+          sym
+          (c .loop-k .inv
           ∙ scan-stops (c .args .len) (limits (c .args .head) (c .args .high) (c .args .low)) (c .args .list .now) (c .loop-k .k) (c .loop-k-test .taken)
           (elim (c .then-k-len .came) [
             | then-k-len·by·then-k-len w ↦ inl (w .if-k-len .taken)
@@ -25,8 +25,8 @@ returns-then-k-len c =
 pub loop-k-again : need.loop-k-again
 loop-k-again c =
     c .loop-k .inv
-      ∙ scan-more (c .args .len) (limits (c .args .head) (c .args .high) (c .args .low)) (c .args .list .now) (c .loop-k .k) (c .loop-k-test .taken) (c .if-k-len .left)
-      (subst (λ x. getD (c .args .list .now) (c .loop-k .k) 0 ≤ x) (c .limit-at .ensures .value) (c .if-x-limit-at .left))
+    ∙ scan-more (c .args .len) (limits (c .args .head) (c .args .high) (c .args .low)) (c .args .list .now) (c .loop-k .k) (c .loop-k-test .taken) (c .if-k-len .left)
+    (subst (λ x. getD (c .args .list .now) (c .loop-k .k) 0 ≤ x) (c .limit-at .ensures .value) (c .if-x-limit-at .left))
 
 pub returns-then-list-len : need.returns-then-list-len
 returns-then-list-len c =
@@ -38,8 +38,8 @@ returns-else-list-len c =
     let other : c .loop-k .k ≡ c .args .len → ⊥ = λ e. c .if-list-len .left (sym here ∙ e) in
     record {
       value =
-        sym
-        (c .loop-k .inv
+          sym
+          (c .loop-k .inv
           ∙ scan-fails (c .args .len) (limits (c .args .head) (c .args .high) (c .args .low)) (c .args .list .now) (c .loop-k .k) (omega arith) other
           ∙ ap Some here);
     }

@@ -8,4 +8,4 @@ use Rattle.tariffs.proofs.lists.wrong_index.Given as given
 abbrev pub Inv-loop-k : given.InvT-loop-k
 Inv-loop-k l =
     first-wrong (bounded (l .len) (limits (l .head) (l .high) (l .low))) (l .list)
-      ≡ wrong-from (bounded (l .len) (limits (l .head) (l .high) (l .low))) (l .k) None (drop (l .k) (l .list))
+    ≡ wrong-from (bounded (l .len) (limits (l .head) (l .high) (l .low))) (l .k) None (drop (l .k) (l .list))
