@@ -1,4 +1,6 @@
 // The pair as an element: complex numbers over arithmetic modulo 4,294,967,296.
+ghost use mathlib.Core.Bool.{true};
+ghost use mathlib.Core.Path.{_≡_};
 ghost use Rattle.elements.specs.Pairs.{Complex-samples, pair-one, pair-product, pair-conjugate, pair-words, pair-back};
 use crate::element::Element;
 use crate::pair::Pair;
@@ -72,7 +74,8 @@ pub impl Element for Pair as PairElement {
 
 // Names two worked examples of the definitions. It answers true.
 pub fn complex_samples_stand() -> bool
-    ensures { λ _. ⌜ Complex-samples ⌝ }
+    ensures samples { λ _. ⌜ Complex-samples ⌝ }
+    ensures value { λ r. ⌜ r ≡ true ⌝ }
 {
     true
 }

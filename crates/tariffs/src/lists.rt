@@ -1,4 +1,5 @@
 // Where a list of bounded numbers is wrong.
+ghost use mathlib.Core.Bool.{true};
 ghost use mathlib.Core.Path.{_≡_};
 ghost use Rattle.faults.specs.Lists.{first-wrong};
 ghost use Rattle.faults.specs.Answers.{Answers};
@@ -50,7 +51,8 @@ fn limit_at(k: usize, head: usize, high: u32, low: u32) -> u32
 
 // Names the fact that lets the law of wrong lists speak of price lists and charges. It answers true.
 pub fn bounded_lists_stand() -> bool
-    ensures { λ _. ⌜ Bounded-lists ⌝ }
+    ensures law { λ _. ⌜ Bounded-lists ⌝ }
+    ensures value { λ r. ⌜ r ≡ true ⌝ }
 {
     true
 }

@@ -1,5 +1,6 @@
 // The tariff of a price list that the station lends: a latency and a price per byte for each sender and receiver.
 ghost use denote.Ref.{now};
+ghost use mathlib.Core.Bool.{true};
 ghost use mathlib.Core.Path.{_≡_};
 ghost use Prim.Native.Nat.{ℕ, _*_, _≤_};
 ghost use lib.ListN.{length, getD};
@@ -73,7 +74,8 @@ pub impl<'a> Tariff for Table<'a> as TableTariff {
 
 // Names a worked example of the definition. It answers true.
 pub fn sample_price_stands() -> bool
-    ensures { λ _. ⌜ Sample-price ⌝ }
+    ensures sample { λ _. ⌜ Sample-price ⌝ }
+    ensures value { λ r. ⌜ r ≡ true ⌝ }
 {
     true
 }
