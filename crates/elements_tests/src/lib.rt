@@ -1,0 +1,3 @@
+// Tests of the elements.
+#[cfg(test)]
+mod tests;
