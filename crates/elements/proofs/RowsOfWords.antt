@@ -3,7 +3,7 @@ use mathlib.Core.List.{List, [], _∷_, _++_, append-assoc}
 use mathlib.Core.Logic.{inl, inr}
 use mathlib.Core.Path.{_≡_, refl, sym, ap, subst, _∙_}
 use Prim.Native.Nat.{ℕ, zero, suc, _+_, _-_, _*_, _/_, _≤_, _<_}
-use native.Mathlib.Nat.{zero-mul, suc-mul, zero-add}
+use native.Mathlib.Nat.{div-mul-le-self, zero-mul, suc-mul, zero-add}
 use native.Mathlib.Numerals.{add-one}
 use native.Mathlib.Omega.{arith}
 use borrow.Rule.Slice.PartMut.{putMid}
@@ -17,6 +17,14 @@ use Rattle.elements.specs.Rows.{words-of-row, row-of-words}
 -- the words of element k end before those of n elements do
 pub room : (k n w : ℕ) → k < n → k * w + w ≤ n * w
 room k n w h = let m : suc k * w ≤ n * w = mul-le (suc k) w n w h (omega arith) in omega (arith, suc-mul k w)
+
+-- whether the words of element k are among l words, by division
+pub inside : (l w k : ℕ) → k < l / w → k * w + w ≤ l
+inside l w k h = omega (arith, room k (l / w) w h, div-mul-le-self l w)
+
+pub outside : (l w k : ℕ) → 1 ≤ w → l / w ≤ k → l < k * w + w
+outside l w k p h =
+    elim (cases-lt l (k * w + w)) [ inl s ↦ s | inr s ↦ absurd (omega (arith, le-div (suc k) l w p (omega (arith, suc-mul k w, s)))) ]
 
 -- whether n elements of w words fit l words, by division
 pub fits-by-division : (l w n : ℕ) → 1 ≤ w → leb n (l / w) ≡ leb (n * w) l
@@ -39,18 +47,34 @@ module _ {E : Type 0} (words : E → List ℕ) (w : ℕ) (sized : (x : E) → le
   -- one more element is written after the words of k elements
   pub pack-more : (row : List E) (buffer : List ℕ) (k : ℕ) (x : E) → k < length row → x ≡ getD row k x
       → putMid (k * w) w (words-of-row words (take k row) ++ drop (k * w) buffer) (words x)
-        ≡ words-of-row words (take (k + 1) row) ++ drop (k * w + w) buffer
+      ≡ words-of-row words (take (k + 1) row) ++ drop (k * w + w) buffer
   pack-more row buffer k x h e =
       let p = words-of-row words (take k row) in
       let l : length p ≡ k * w = length-front row k (omega arith) in
       let step : p ++ words x ≡ words-of-row words (take (k + 1) row) =
-          joined-more words [] (take k row) x ∙ ap (words-of-row words) (ap (λ y. take k row ++ y ∷ []) e ∙ sym (take-more row k x h))
+      joined-more words [] (take k row) x ∙ ap (words-of-row words) (ap (λ y. take k row ++ y ∷ []) e ∙ sym (take-more row k x h))
       in
       ap (λ t. t ++ (words x ++ drop w (drop (k * w) (p ++ drop (k * w) buffer)))) (take-at p (drop (k * w) buffer) (k * w) l)
-        ∙ ap (λ t. p ++ (words x ++ drop w t)) (drop-at p (drop (k * w) buffer) (k * w) l)
-        ∙ ap (λ t. p ++ (words x ++ t)) (drop-drop w (k * w) buffer)
-        ∙ sym (append-assoc p (words x) (drop (k * w + w) buffer))
-        ∙ ap (λ t. t ++ drop (k * w + w) buffer) step
+      ∙ ap (λ t. p ++ (words x ++ drop w t)) (drop-at p (drop (k * w) buffer) (k * w) l)
+      ∙ ap (λ t. p ++ (words x ++ t)) (drop-drop w (k * w) buffer)
+      ∙ sym (append-assoc p (words x) (drop (k * w + w) buffer))
+      ∙ ap (λ t. t ++ drop (k * w + w) buffer) step
+
+  -- the words of element k stand where those of the k before it end
+  pub words-at : (packed : List E) (rest : List ℕ) (k : ℕ) (d : E) → k < length packed
+      → take w (drop (k * w) (words-of-row words packed ++ rest)) ≡ words (getD packed k d)
+  words-at [] rest k d h = absurd (omega arith)
+  words-at (x ∷ xs) rest zero d h =
+      ap (λ n. take w (drop n (words-of-row words (x ∷ xs) ++ rest))) (zero-mul w)
+      ∙ ap (take w) (append-assoc (words x) (words-of-row words xs) rest)
+      ∙ take-at (words x) (words-of-row words xs ++ rest) w (sized x)
+  words-at (x ∷ xs) rest (suc k) d h =
+      let all = words-of-row words (x ∷ xs) ++ rest in
+      let split : w + k * w ≡ suc k * w = omega (arith, suc-mul k w) in
+      ap (λ n. take w (drop n all)) (sym split)
+      ∙ ap (take w) (sym (drop-drop (k * w) w all))
+      ∙ ap (λ t. take w (drop (k * w) t)) (ap (drop w) (append-assoc (words x) (words-of-row words xs) rest) ∙ drop-at (words x) (words-of-row words xs ++ rest) w (sized x))
+      ∙ words-at xs rest k d (omega arith)
 
 module _ {E : Type 0} (back : List ℕ → E) (w : ℕ) where
   pub length-row-of-words : (n : ℕ) (xs : List ℕ) → length (row-of-words back w n xs) ≡ n
@@ -71,10 +95,10 @@ module _ {E : Type 0} (back : List ℕ → E) (w : ℕ) where
       let done = row-of-words back w k xs in
       let pushed : done ++ v ∷ [] ≡ row-of-words back w (k + 1) xs = sym (row-of-words-push k xs) ∙ ap (λ n. row-of-words back w n xs) (sym (add-one k)) in
       set-append-right done (drop k row) k k v (length-row-of-words k xs) (omega arith)
-        ∙ ap (λ n. done ++ set (drop k row) n v) (let z : k - k ≡ 0 = omega arith in z)
-        ∙ ap (λ t. done ++ set t 0 v) (drop-more row k v h)
-        ∙ sym (append-assoc done (v ∷ []) (drop (k + 1) row))
-        ∙ ap (λ t. t ++ drop (k + 1) row) pushed
+      ∙ ap (λ n. done ++ set (drop k row) n v) (let z : k - k ≡ 0 = omega arith in z)
+      ∙ ap (λ t. done ++ set t 0 v) (drop-more row k v h)
+      ∙ sym (append-assoc done (v ∷ []) (drop (k + 1) row))
+      ∙ ap (λ t. t ++ drop (k + 1) row) pushed
 
 module _ {E : Type 0} (words : E → List ℕ) (back : List ℕ → E) (w : ℕ) (sized : (x : E) → length (words x) ≡ w) (kept : (x : E) → back (words x) ≡ x) where
   pub round-trip : (row : List E) (rest : List ℕ) → row-of-words back w (length row) (words-of-row words row ++ rest) ≡ row
@@ -84,6 +108,6 @@ module _ {E : Type 0} (words : E → List ℕ) (back : List ℕ → E) (w : ℕ)
       let front : take w ((words x ++ words-of-row words xs) ++ rest) ≡ words x = ap (take w) split ∙ take-at (words x) (words-of-row words xs ++ rest) w (sized x) in
       let later : drop w ((words x ++ words-of-row words xs) ++ rest) ≡ words-of-row words xs ++ rest = ap (drop w) split ∙ drop-at (words x) (words-of-row words xs ++ rest) w (sized x) in
       ap (λ t. back t ∷ row-of-words back w (length xs) (drop w ((words x ++ words-of-row words xs) ++ rest))) front
-        ∙ ap (λ t. t ∷ row-of-words back w (length xs) (drop w ((words x ++ words-of-row words xs) ++ rest))) (kept x)
-        ∙ ap (λ t. x ∷ row-of-words back w (length xs) t) later
-        ∙ ap (λ t. x ∷ t) (round-trip xs rest)
+      ∙ ap (λ t. t ∷ row-of-words back w (length xs) (drop w ((words x ++ words-of-row words xs) ++ rest))) (kept x)
+      ∙ ap (λ t. x ∷ row-of-words back w (length xs) t) later
+      ∙ ap (λ t. x ∷ t) (round-trip xs rest)

@@ -6,12 +6,14 @@
 --     Unpacked due xs row read after r     the answer and the row after unpacking: None, and no change, where fewer
 --                                     words than due are there; else their number, and the elements read
 --     Round-trip words xs row after   where xs begins with the words of as many elements as the row has, these are read
+--     Kept words xs k r               where xs begins with the words of more than k elements, r is the element k of these
 use mathlib.Core.List.{List, [], _∷_, _++_}
 use mathlib.Core.Path.{_≡_}
 use Prim.Native.Nat.{ℕ, zero, suc, _≤_, _<_}
 use lib.ListN.{length, take, drop}
 use Rattle.std.specs.Options.{Cases}
 use Rattle.std.specs.shelf.Lists.{joined}
+use Rattle.std.specs.shelf.Maps.{nth}
 use Rattle.std.specs.declared.option.Option.{Option}
 
 abbrev pub words-of-row : {E : Type 0} → (E → List ℕ) → List E → List ℕ
@@ -33,3 +35,7 @@ Unpacked due xs row read after r =
 abbrev pub Round-trip : {E : Type 0} → (E → List ℕ) → List ℕ → List E → List E → Type 0
 Round-trip {E} words xs row after =
     (packed : List E) (rest : List ℕ) → xs ≡ words-of-row words packed ++ rest → length packed ≡ length row → after ≡ packed
+
+abbrev pub Kept : {E : Type 0} → (E → List ℕ) → List ℕ → ℕ → Option E → Type 0
+Kept {E} words xs k r =
+    (packed : List E) (rest : List ℕ) → xs ≡ words-of-row words packed ++ rest → k < length packed → r ≡ nth packed k

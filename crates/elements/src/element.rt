@@ -61,10 +61,10 @@ pub trait Element: Copy {
         ensures value { λ r. ⌜ Decides r (self ≡ unit) ⌝ };
 
     // The words, and zeros after them.
-    fn to_words(self) -> [u32; 4]
+    fn to_words(self) -> [u32; MOST_WORDS]
         ensures value { λ r. ⌜ r ≡ words self ++ replicate (4 - width) 0 ⌝ };
 
     // The element of the first words.
-    fn from_words(from: [u32; 4]) -> Self
+    fn from_words(from: [u32; MOST_WORDS]) -> Self
         ensures value { λ r. ⌜ r ≡ back (take width from) ⌝ };
 }

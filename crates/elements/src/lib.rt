@@ -9,6 +9,7 @@ pub mod words;
 pub use element::Element;
 pub use pair::Pair;
 pub use pairs::PairElement;
+pub use rows::element_at;
 pub use rows::pack;
 pub use rows::unpack;
 pub use word::Word;

@@ -3,6 +3,7 @@ ghost use mathlib.Core.Bool.{true};
 ghost use mathlib.Core.Path.{_≡_};
 ghost use Rattle.elements.specs.Pairs.{Complex-samples, pair-one, pair-product, pair-conjugate, pair-words, pair-back};
 use crate::element::Element;
+use crate::element::MOST_WORDS;
 use crate::pair::Pair;
 use crate::word::Word;
 
@@ -60,11 +61,11 @@ pub impl Element for Pair as PairElement {
         self.real.value == 1 && self.imaginary.value == 0
     }
 
-    fn to_words(self) -> [u32; 4] {
+    fn to_words(self) -> [u32; MOST_WORDS] {
         [self.real.value, self.imaginary.value, 0, 0]
     }
 
-    fn from_words(from: [u32; 4]) -> Pair {
+    fn from_words(from: [u32; MOST_WORDS]) -> Pair {
         Pair {
             real: Word { value: from[0] },
             imaginary: Word { value: from[1] },

@@ -1,11 +1,13 @@
 // Rows of elements as words.
 ghost use mathlib.Core.List.{List, _++_};
 ghost use mathlib.Core.Path.{_≡_};
-ghost use Prim.Native.Nat.{ℕ, _*_, _≤_};
+ghost use Prim.Native.Nat.{ℕ, _+_, _*_, _≤_, _<_};
 ghost use lib.Dec.{leb};
 ghost use lib.ListN.{length, take, drop};
-ghost use Rattle.elements.specs.Rows.{Packed, Round-trip, Unpacked, row-of-words, words-of-row};
+ghost use Rattle.std.specs.Options.{Cases};
+ghost use Rattle.elements.specs.Rows.{Kept, Packed, Round-trip, Unpacked, row-of-words, words-of-row};
 use crate::element::Element;
+use crate::element::MOST_WORDS;
 
 // Writes the words of `row` to the front of `into`, and answers how many; or `None` where they do not fit.
 pub fn pack<E: Element>(row: &[E], into: &mut [u32]) -> Option<usize>
@@ -73,11 +75,24 @@ fn read_row<E: Element>(from: &[u32], row: &mut [E]) -> usize
     at
 }
 
+// Reads the element at `index` of a row alone, or `None` where its words are not all there.
+pub fn element_at<E: Element>(from: &[u32], index: usize) -> Option<E>
+    ensures cases { λ r. ⌜ Cases r (length (now (from .entry)) < (index + 1) * width) (λ x. ((index + 1) * width ≤ length (now (from .entry))) × (x ≡ back (take width (drop (index * width) (now (from .entry)))))) ⌝ }
+    ensures kept { λ r. ⌜ Kept words (now (from .entry)) index r ⌝ }
+{
+    let size = E::size();
+    if index >= from.len() / size {
+        return None;
+    }
+    let at = index * size;
+    Some(read(&from[at..at + size]))
+}
+
 fn read<E: Element>(from: &[u32]) -> E
     requires fits { ⌜ length (now from) ≡ width ⌝ }
     ensures value { λ r. ⌜ r ≡ back (now (from .entry)) ⌝ }
 {
-    let mut laid = [0; 4];
+    let mut laid = [0; MOST_WORDS];
     laid[0..from.len()].copy_from_slice(from);
     E::from_words(laid)
 }

@@ -1,6 +1,7 @@
 // The word as an element: arithmetic modulo 4,294,967,296.
 ghost use Rattle.elements.specs.Words.{word-one, word-product, word-words, word-back};
 use crate::element::Element;
+use crate::element::MOST_WORDS;
 use crate::word::Word;
 
 pub impl Element for Word as WordElement {
@@ -42,11 +43,11 @@ pub impl Element for Word as WordElement {
         self.value == 1
     }
 
-    fn to_words(self) -> [u32; 4] {
+    fn to_words(self) -> [u32; MOST_WORDS] {
         [self.value, 0, 0, 0]
     }
 
-    fn from_words(from: [u32; 4]) -> Word {
+    fn from_words(from: [u32; MOST_WORDS]) -> Word {
         Word { value: from[0] }
     }
 }

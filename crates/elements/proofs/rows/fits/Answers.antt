@@ -8,6 +8,6 @@ pub returns : need.returns
 returns g c =
     record {
       value =
-        ap (λ w. leb (c .args .count) (c .args .len / w)) (c .size .ensures .value)
+          ap (λ w. leb (c .args .count) (c .args .len / w)) (c .size .ensures .value)
           ∙ fits-by-division (c .args .len) (g .E·Element .width) (c .args .count) (g .E·Element·met .least);
     }

@@ -9,6 +9,6 @@ returns g c =
     let copied = c .copy-from-slice .ensures .after in
     record {
       value =
-        c .from-words .ensures .value
+          c .from-words .ensures .value
           ∙ ap (g .E·Element .back) (take-at (c .copy-from-slice .last .self) _ w (ap length copied ∙ c .pre .fits) ∙ copied);
     }

@@ -34,14 +34,15 @@ loop-x-again g c =
     let size : c .loop-x .at + c .size-size .result - c .loop-x .at ≡ w = omega (arith, c .size-size .ensures .value) in
     let next : (k + 1) * w ≡ k * w + w = rw add-one (suc-mul k w) in
     let value : c .read .result ≡ back (take w (drop (k * w) xs)) =
-        c .read .ensures .value
-          ∙ ap (λ n. back (take n (drop (c .loop-x .at) xs))) size
-          ∙ ap (λ n. back (take w (drop n xs))) (c .loop-x .inv .0)
-    in
-    (omega (arith, next, c .loop-x .inv .0, c .size-size .ensures .value),
+    c .read .ensures .value
+    ∙ ap (λ n. back (take n (drop (c .loop-x .at) xs))) size
+    ∙ ap (λ n. back (take w (drop n xs))) (c .loop-x .inv .0)
+    in (
+      omega (arith, next, c .loop-x .inv .0, c .size-size .ensures .value),
       ap (λ t. set t k (c .read .result)) (c .loop-x .inv .1)
-        ∙ ap (set (row-of-words back w k xs ++ drop k (c .args .row .now)) k) value
-        ∙ unpack-more back w (c .args .row .now) xs k (c .loop-x-test .taken))
+          ∙ ap (set (row-of-words back w k xs ++ drop k (c .args .row .now)) k) value
+          ∙ unpack-more back w (c .args .row .now) xs k (c .loop-x-test .taken),
+    )
 
 pub returns : need.returns
 returns g c =
@@ -53,7 +54,7 @@ returns g c =
     record {
       count = c .loop-x .inv .0 ∙ ap (λ n. n * w) all;
       after =
-        c .loop-x .inv .1
+          c .loop-x .inv .1
           ∙ ap (λ n. row-of-words back w n xs ++ drop n row) all
           ∙ ap (λ t. row-of-words back w (length row) xs ++ t) (drop-all (length row) row (omega arith))
           ∙ append-nil (row-of-words back w (length row) xs);

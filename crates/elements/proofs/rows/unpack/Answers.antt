@@ -15,8 +15,8 @@ returns-then-not-fits g c =
     record {
       cases = (short, refl);
       kept = λ packed rest e l.
-        absurd
-        (omega (arith, short, ap length e ∙ length-append (words-of-row words packed) rest, length-words-of-row words w (g .E·Element·met .sized) packed, ap (λ n. n * w) l));
+          absurd
+          (omega (arith, short, ap length e ∙ length-append (words-of-row words packed) rest, length-words-of-row words w (g .E·Element·met .sized) packed, ap (λ n. n * w) l));
     }
 
 pub returns : need.returns
@@ -28,7 +28,7 @@ returns g c =
     record {
       cases = (c .read-row .ensures .count, search needs, after);
       kept = λ packed rest e l.
-        after
+          after
           ∙ ap (λ n. row-of-words back w n (c .args .from .now)) (sym l)
           ∙ ap (row-of-words back w (length packed)) e
           ∙ round-trip words back w (g .E·Element·met .sized) (g .E·Element·met .kept) packed rest;

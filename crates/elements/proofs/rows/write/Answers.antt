@@ -10,7 +10,7 @@ returns g c =
     let w = g .E·Element .width in
     record {
       after =
-        c .copy-from-slice .ensures .after
+          c .copy-from-slice .ensures .after
           ∙ ap (λ n. take n (c .to-words-laid .result)) (sub-zero (length (c .args .into .now)) ∙ c .pre .fits)
           ∙ ap (take w) (c .to-words-laid .ensures .value)
           ∙ take-at (g .E·Element .words (c .args .x)) (replicate (4 - w) 0) w (g .E·Element·met .sized (c .args .x));

@@ -36,14 +36,15 @@ loop-x-again g c =
     let x = c .x-item .result in
     let size : c .loop-x .at + c .size-size .result - c .loop-x .at ≡ w = omega (arith, c .size-size .ensures .value) in
     let next : (k + 1) * w ≡ k * w + w = rw add-one (suc-mul k w) in
-    let laid = words-of-row words (take k row) ++ drop (k * w) buffer in
-    (omega (arith, next, c .loop-x .inv .0, c .size-size .ensures .value),
+    let laid = words-of-row words (take k row) ++ drop (k * w) buffer in (
+      omega (arith, next, c .loop-x .inv .0, c .size-size .ensures .value),
       ap (λ a. putMid a (c .loop-x .at + c .size-size .result - c .loop-x .at) (c .loop-x .into) (c .write .last .into)) (c .loop-x .inv .0)
-        ∙ ap (λ n. putMid (k * w) n (c .loop-x .into) (c .write .last .into)) size
-        ∙ ap (λ t. putMid (k * w) w t (c .write .last .into)) (c .loop-x .inv .1)
-        ∙ ap (putMid (k * w) w laid) (c .write .ensures .after)
-        ∙ pack-more words w (g .E·Element·met .sized) row buffer k x (c .loop-x-test .taken) (c .x-item .is)
-        ∙ ap (λ n. words-of-row words (take (k + 1) row) ++ drop n buffer) (sym next))
+          ∙ ap (λ n. putMid (k * w) n (c .loop-x .into) (c .write .last .into)) size
+          ∙ ap (λ t. putMid (k * w) w t (c .write .last .into)) (c .loop-x .inv .1)
+          ∙ ap (putMid (k * w) w laid) (c .write .ensures .after)
+          ∙ pack-more words w (g .E·Element·met .sized) row buffer k x (c .loop-x-test .taken) (c .x-item .is)
+          ∙ ap (λ n. words-of-row words (take (k + 1) row) ++ drop n buffer) (sym next),
+    )
 
 pub returns : need.returns
 returns g c =
@@ -55,7 +56,7 @@ returns g c =
     record {
       count = c .loop-x .inv .0 ∙ ap (λ n. n * w) all;
       after =
-        c .loop-x .inv .1
+          c .loop-x .inv .1
           ∙ ap (λ n. words-of-row words (take n row) ++ drop (n * w) buffer) all
           ∙ ap (λ t. words-of-row words t ++ drop (length row * w) buffer) (take-all (length row) row (omega arith));
     }
