@@ -1,5 +1,5 @@
 use borrow.Author.Needs.{needs}
-use mathlib.Core.Path.{_≡_, sym, ap, subst, _∙_}
+use mathlib.Core.Path.{_≡_, sym, ap, _∙_}
 use Prim.Native.Nat.{suc, _+_, _-_, _*_, _/_, _<_, _≤_}
 use native.Mathlib.Nat.{suc-mul}
 use native.Mathlib.Numerals.{add-one}
@@ -17,7 +17,7 @@ returns-then-index-from g c =
     let k = c .args .index in
     let words = g .E·Element .words in
     let xs = c .args .from .now in
-    let beyond : length xs / w ≤ k = subst (λ n. length xs / n ≤ k) (c .size-size .ensures .value) (c .if-index-from .taken) in
+    let beyond : length xs / w ≤ k = omega (arith, ap (λ n. length xs / n) (c .size-size .ensures .value), c .if-index-from .taken) in
     let short = outside (length xs) w k (g .E·Element·met .least) beyond in
     let next : (k + 1) * w ≡ k * w + w = rw add-one (suc-mul k w) in
     record {
@@ -29,22 +29,22 @@ returns-then-index-from g c =
 
 pub mul-at : need.mul-at
 mul-at g c =
-    let h : c .args .index * c .size-size .result + c .size-size .result ≤ length (c .args .from .now) = inside (length (c .args .from .now)) (c .size-size .result) (c .args .index) (c .if-index-from .left) in
+    let h : c .args .index * c .size-size .result + c .size-size .result ≤ length (c .args .from .now) = inside (length (c .args .from .now)) (c .size-size .result) (c .args .index) (omega (arith, c .if-index-from .left)) in
     search needs
 
 pub add-at : need.add-at
 add-at g c =
-    let h : c .args .index * c .size-size .result + c .size-size .result ≤ length (c .args .from .now) = inside (length (c .args .from .now)) (c .size-size .result) (c .args .index) (c .if-index-from .left) in
+    let h : c .args .index * c .size-size .result + c .size-size .result ≤ length (c .args .from .now) = inside (length (c .args .from .now)) (c .size-size .result) (c .args .index) (omega (arith, c .if-index-from .left)) in
     search needs
 
 pub offset-from-at : need.offset-from-at
 offset-from-at g c =
-    let h : c .args .index * c .size-size .result + c .size-size .result ≤ length (c .args .from .now) = inside (length (c .args .from .now)) (c .size-size .result) (c .args .index) (c .if-index-from .left) in
+    let h : c .args .index * c .size-size .result + c .size-size .result ≤ length (c .args .from .now) = inside (length (c .args .from .now)) (c .size-size .result) (c .args .index) (omega (arith, c .if-index-from .left)) in
     search needs
 
 pub part-read-end : need.part-read-end
 part-read-end g c =
-    let h : c .args .index * c .size-size .result + c .size-size .result ≤ length (c .args .from .now) = inside (length (c .args .from .now)) (c .size-size .result) (c .args .index) (c .if-index-from .left) in
+    let h : c .args .index * c .size-size .result + c .size-size .result ≤ length (c .args .from .now) = inside (length (c .args .from .now)) (c .size-size .result) (c .args .index) (omega (arith, c .if-index-from .left)) in
     search needs
 
 pub returns : need.returns
@@ -54,7 +54,7 @@ returns g c =
     let words = g .E·Element .words in
     let back = g .E·Element .back in
     let xs = c .args .from .now in
-    let here : k < length xs / w = subst (λ n. k < length xs / n) (c .size-size .ensures .value) (c .if-index-from .left) in
+    let here : k < length xs / w = omega (arith, ap (λ n. length xs / n) (c .size-size .ensures .value), c .if-index-from .left) in
     let next : (k + 1) * w ≡ k * w + w = rw add-one (suc-mul k w) in
     let size : k * c .size-size .result + c .size-size .result - k * c .size-size .result ≡ w = omega (arith, c .size-size .ensures .value) in
     let value : c .read .result ≡ back (take w (drop (k * w) xs)) =
