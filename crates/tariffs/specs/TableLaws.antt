@@ -1,9 +1,8 @@
 -- The laws of tariffs hold of a table whose entries are within their limits; a proof, which the trait's ghost
 -- member cites.
 --     table-laws n xs      the laws, for n boards and the list xs
-use mathlib.Core.Bool.{cond}
 use mathlib.Core.List.{List}
-use mathlib.Core.Path.{_≡_, refl, subst}
+use mathlib.Core.Path.{_≡_, subst}
 use Prim.Native.Nat.{ℕ, _+_, _*_, _≤_}
 use native.Mathlib.Omega.{arith}
 use lib.Dec.{ltb, eqb}
