@@ -4,6 +4,7 @@ use elements::Pair;
 use elements::PairElement;
 use elements::Word;
 use elements::WordElement;
+use elements::element_at;
 use elements::pack;
 use elements::pair::PairDebug;
 use elements::pair::PairPartialEq;
@@ -96,4 +97,18 @@ fn an_empty_row_has_no_words() -> Result<(), Fail> {
     let mut buffer = [9; 1];
     check_eq(pack(&none, &mut buffer), Some(0))?;
     check_eq(buffer, [9])
+}
+
+#[test]
+fn one_element_of_a_row_is_read_alone() -> Result<(), Fail> {
+    check_eq(
+        element_at::<PairElement>(&[1, 2, 3, 4, 5], 1),
+        Some(pair(3, 4)),
+    )?;
+    check_eq(element_at::<PairElement>(&[1, 2, 3, 4, 5], 2), None)?;
+    check_eq(element_at::<WordElement>(&[1, 2, 3], 2), Some(word(3)))?;
+    check_eq(
+        element_at::<WordElement>(&[1, 2, 3], 18446744073709551615),
+        None,
+    )
 }
