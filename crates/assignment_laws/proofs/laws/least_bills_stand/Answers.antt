@@ -1,0 +1,5 @@
+use Rattle.assignment_laws.proofs.LeastBills.{least-bills}
+use Rattle.assignment_laws.proofs.laws.least_bills_stand.Needs as need
+
+pub returns : need.returns
+returns c = least-bills

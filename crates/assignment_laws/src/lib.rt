@@ -1,0 +1,2 @@
+// The laws of namings and prices that the search for a least naming rests on.
+pub mod laws;
