@@ -1,2 +1,4 @@
-pub mod Zeros
+pub mod Growing
+pub mod Relaxing
 pub mod Rows
+pub mod Zeros

@@ -1,1 +1,3 @@
 pub mod Costs
+pub mod Search
+pub mod Trees

@@ -1,10 +1,31 @@
-// The tree of shortest paths that a search for a free board grows.
+// What a search for a free board works on.
 
+// Prices of the roles, and discounts of the boards: a board's price is its discount below zero.
+#[derive(Clone, Copy)]
+pub(crate) struct Prices {
+    pub(crate) roles: [u64; 16],
+    pub(crate) discounts: [u64; 16],
+}
+
+// The role that holds each board and the board of each role; 16 where there is none.
+#[derive(Clone, Copy)]
+pub(crate) struct Matching {
+    pub(crate) owner: [usize; 16],
+    pub(crate) naming: [usize; 16],
+}
+
+// The tree of shortest paths over boards: how far each is from the root, the role from which it is
+// reached, and the step at which it joined the tree, counted from 1 (0 outside the tree).
+#[derive(Clone, Copy)]
 pub(crate) struct Tree {
-    // How far each board is from the root.
     pub(crate) distance: [u64; 16],
-    // The role from which each board is reached.
     pub(crate) way: [usize; 16],
-    // The step at which each board joined the tree, counted from 1; 0 outside it.
     pub(crate) rank: [usize; 16],
+}
+
+// A tree, and the board at the end of its path.
+#[derive(Clone, Copy)]
+pub(crate) struct Path {
+    pub(crate) tree: Tree,
+    pub(crate) end: usize,
 }

@@ -43,7 +43,7 @@ put-same f k v x e = cond-true (eqb x k) v (f x) (eq-eqb x k e)
 pub put-other : (f : ℕ → ℕ) (k v x : ℕ) → (x ≡ k → ⊥) → put f k v x ≡ f x
 put-other f k v x d = cond-false (eqb x k) v (f x) (ne-eqb x k d)
 
-total-put : (f : ℕ → ℕ) (k v n : ℕ) → k < n → total (put f k v) n + f k ≡ total f n + v
+pub total-put : (f : ℕ → ℕ) (k v n : ℕ) → k < n → total (put f k v) n + f k ≡ total f n + v
 total-put f k v zero l = absurd (omega arith)
 total-put f k v (suc n) l =
     elim (cases-eq n k) [
