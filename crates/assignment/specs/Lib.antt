@@ -1,3 +1,4 @@
 pub mod Costs
+pub mod Paths
 pub mod Search
 pub mod Trees
