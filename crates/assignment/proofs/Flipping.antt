@@ -17,12 +17,12 @@ module _ (n root : ℕ) (most : n ≤ 16) (m : Matching) (t : Tree) (e : ℕ) (s
         board = route .end;
         inside = route .inside;
         matched =
-          record {
-            named = start .named;
-            unnamed = start .unnamed;
-            back = λ x l b. (start .back x l b .0, λ q. omega (arith, route .free, start .back x l b .0, ap (val (m .owner)) q));
-            forth = λ y l d h. start .forth y l (λ q. omega arith) h;
-          };
+            record {
+              named = start .named;
+              unnamed = start .unnamed;
+              back = λ x l b. (start .back x l b .0, λ q. omega (arith, route .free, start .back x l b .0, ap (val (m .owner)) q));
+              forth = λ y l d h. start .forth y l (λ q. omega arith) h;
+            };
         pairs = λ y l d h. inl refl;
         freed = λ y l d h. h;
         kept = λ x l b r. refl;
@@ -88,12 +88,11 @@ module _ (n root : ℕ) (most : n ≤ 16) (m : Matching) (t : Tree) (e : ℕ) (s
                 (ap (val (j .owner)) own ∙ g .owner ∙ sym q, λ z. apart (sym own ∙ z)))
             | inr d ↦
                 (let own : val (j .naming) x ≡ val (k .naming) x = g .names x d in
-                let old = s .matched .back x l (omega (arith, own, a)) in
-                (
+                let old = s .matched .back x l (omega (arith, own, a)) in (
                   ap (val (j .owner)) own ∙ g .owners (val (k .naming) x) (old .1) ∙ old .0,
                   λ z.
-                    let same : val (k .owner) (val (k .naming) x) ≡ val (k .owner) q₀ = ap (val (k .owner)) (sym own ∙ z) in
-                    d (sym (old .0) ∙ same ∙ s .matched .back x₀ (near .below) q₀-below .0)
+                      let same : val (k .owner) (val (k .naming) x) ≡ val (k .owner) q₀ = ap (val (k .owner)) (sym own ∙ z) in
+                      d (sym (old .0) ∙ same ∙ s .matched .back x₀ (near .below) q₀-below .0),
                 ))
           ]
 
@@ -158,7 +157,7 @@ module _ (n root : ℕ) (most : n ≤ 16) (m : Matching) (t : Tree) (e : ℕ) (s
                 (let own : val (j .owner) y ≡ val (k .owner) y = g .owners y f in
                 let old = s .matched .forth y l f (omega (arith, own, h)) in
                 let other : val (k .owner) y ≡ root → ⊥ =
-                    λ z. omega (arith, old .1, ap (val (k .naming)) z, s .matched .unnamed root (omega arith) low) in
+                λ z. omega (arith, old .1, ap (val (k .naming)) z, s .matched .unnamed root (omega arith) low) in
                 (omega (arith, own, old .0), ap (val (j .naming)) own ∙ names-last (val (k .owner) y) other ∙ old .1))
           ]
 
@@ -166,16 +165,16 @@ module _ (n root : ℕ) (most : n ≤ 16) (m : Matching) (t : Tree) (e : ℕ) (s
       switched-last =
           record {
             matched =
-              record {
-                named = λ x l.
-                  elim (cases-eq x root) [
-                    | inl q ↦ omega (arith, ap (val (j .naming)) q, named-last, s .board)
-                    | inr d ↦ omega (arith, names-last x d, s .matched .named x (omega arith))
-                  ];
-                unnamed = λ x l a. names-last x (λ z. omega arith) ∙ s .matched .unnamed x (omega arith) a;
-                back = back-last;
-                forth = forth-last;
-              };
+                record {
+                  named = λ x l.
+                      elim (cases-eq x root) [
+                        | inl q ↦ omega (arith, ap (val (j .naming)) q, named-last, s .board)
+                        | inr d ↦ omega (arith, names-last x d, s .matched .named x (omega arith))
+                      ];
+                  unnamed = λ x l a. names-last x (λ z. omega arith) ∙ s .matched .unnamed x (omega arith) a;
+                  back = back-last;
+                  forth = forth-last;
+                };
             pairs = pairs-given 16;
             freed = freed-given 16 (omega (arith, last, low));
           }

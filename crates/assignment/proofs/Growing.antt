@@ -24,7 +24,7 @@ unused-joined t s n b step j l z p =
     let here : g b ≡ 0 = cond-false (eqb (val (s .rank) b) 0) 1 0 (ne-eqb (val (s .rank) b) 0 (λ e. omega (arith, j .here))) in
     let was : f b ≡ 1 = cond-true (eqb (val (t .rank) b) 0) 1 0 (eq-eqb (val (t .rank) b) 0 z) in
     let each : (y : ℕ) → y < n → g y ≡ put f b 0 y =
-        λ y m. elim (cases-eq y b) [ inl e ↦ ap g e ∙ here ∙ sym (put-same f b 0 y e) | inr d ↦ ap (λ v. cond (eqb v 0) 1 0) (j .others y d) ∙ sym (put-other f b 0 y d) ] in
+    λ y m. elim (cases-eq y b) [ inl e ↦ ap g e ∙ here ∙ sym (put-same f b 0 y e) | inr d ↦ ap (λ v. cond (eqb v 0) 1 0) (j .others y d) ∙ sym (put-other f b 0 y d) ] in
     omega (arith, total-same g (put f b 0) n each, total-put f b 0 n l, was)
 
 module _ (c : Costs) (p : Prices) (m : Matching) (root : ℕ) (known : Matched (c .boards) root m 16) where
@@ -37,7 +37,7 @@ module _ (c : Costs) (p : Prices) (m : Matching) (root : ℕ) (known : Matched (
       let below : (y : ℕ) → y < c .boards → val (m .owner) y < c .boards = λ y b. known .forth y b (no-hole y b) (h y b) .0 in
       let named : (y : ℕ) → y < c .boards → val (m .naming) (val (m .owner) y) ≡ y = λ y b. known .forth y b (no-hole y b) (h y b) .1 in
       let perm : Permutation (c .boards) (val (m .owner)) =
-          record { below = below; apart = λ y z a b e. sym (named y a) ∙ ap (val (m .naming)) e ∙ named z b } in
+      record { below = below; apart = λ y z a b e. sym (named y a) ∙ ap (val (m .naming)) e ∙ named z b } in
       no-gap (c .boards) root (val (m .owner)) perm l
       (λ y b e. omega (arith, c .most, known .unnamed root (omega arith) l, ap (val (m .naming)) e, named y b))
 
@@ -70,14 +70,14 @@ module _ (c : Costs) (p : Prices) (m : Matching) (root : ℕ) (known : Matched (
           named = f .named;
           inside = omega (arith, own, f .inside);
           earlier =
-            elim (cases-eq y e) [
-              | inl q ↦ inr (omega (arith, own, g .ranks (val (m .naming) x) (f .named), j .here, ap (val (s .rank)) q))
-              | inr d ↦
-                  elim (f .earlier) [
-                    | inl z ↦ inl (j .others y d ∙ z)
-                    | inr k ↦ inr (omega (arith, own, k, j .others y d))
-                  ]
-            ];
+              elim (cases-eq y e) [
+                | inl q ↦ inr (omega (arith, own, g .ranks (val (m .naming) x) (f .named), j .here, ap (val (s .rank)) q))
+                | inr d ↦
+                    elim (f .earlier) [
+                      | inl z ↦ inl (j .others y d ∙ z)
+                      | inr k ↦ inr (omega (arith, own, k, j .others y d))
+                    ]
+              ];
           length = omega (arith, f .length, joined-distance y, joined-distance (val (m .naming) x));
         }
 
@@ -100,21 +100,21 @@ module _ (c : Costs) (p : Prices) (m : Matching) (root : ℕ) (known : Matched (
           record {
             short-root = λ y l. omega (arith, g .rooted .short-root y l, joined-distance y);
             short = λ x y a b k h.
-              elim (was (val (m .naming) x) h) [
-                | inl q ↦ absurd (omega (arith, c .most, ap (val (m .owner)) q, known .back x a k .0))
-                | inr i ↦ omega (arith, g .rooted .short x y a b k i, joined-distance y, joined-distance (val (m .naming) x))
-              ];
+                elim (was (val (m .naming) x) h) [
+                  | inl q ↦ absurd (omega (arith, c .most, ap (val (m .owner)) q, known .back x a k .0))
+                  | inr i ↦ omega (arith, g .rooted .short x y a b k i, joined-distance y, joined-distance (val (m .naming) x))
+                ];
             from = way-joined;
             inside = λ y l h.
-              elim (was y h) [
-                | inl q ↦ omega (arith, ap (val (s .distance)) q)
-                | inr i ↦ omega (arith, g .rooted .inside y l i, joined-distance y, joined-distance e)
-              ];
+                elim (was y h) [
+                  | inl q ↦ omega (arith, ap (val (s .distance)) q)
+                  | inr i ↦ omega (arith, g .rooted .inside y l i, joined-distance y, joined-distance e)
+                ];
             outside = λ y l z.
-              elim (cases-eq y e) [
-                | inl q ↦ absurd (omega (arith, j .here, positive, ap (val (s .rank)) q))
-                | inr d ↦ omega (arith, g .rooted .outside y l (sym (j .others y d) ∙ z), joined-distance y, joined-distance e)
-              ];
+                elim (cases-eq y e) [
+                  | inl q ↦ absurd (omega (arith, j .here, positive, ap (val (s .rank)) q))
+                  | inr d ↦ omega (arith, g .rooted .outside y l (sym (j .others y d) ∙ z), joined-distance y, joined-distance e)
+                ];
           }
 
       pub held-last : (y : ℕ) → y < n → 0 < val (s .rank) y → (y ≡ e) ⊎ (val (m .owner) y < 16)
@@ -266,19 +266,19 @@ module _ (c : Costs) (p : Prices) (m : Matching) (root : ℕ) (known : Matched (
                   end = q .0;
                   end-outside = q .1;
                   rooted =
-                    record {
-                      short-root = λ y b. omega (arith, g .rooted .short-root y b, shrinks y b);
-                      short = short-more;
-                      from = way-more;
-                      inside = λ y b i.
-                        let far : val (t .distance) e ≤ val (r .distance) e′ = beyond e′ (q .0) (sym (same-rank e′) ∙ q .1) in
-                        let i′ : 0 < val (s .rank) y = omega (arith, same-rank y, i) in
-                        elim (was y i′) [
-                          | inl o ↦ omega (arith, far, e-same, ap (val (r .distance)) o)
-                          | inr k ↦ omega (arith, far, inside-same y b i′, g .rooted .inside y b k)
-                        ];
-                      outside = q .2;
-                    };
+                      record {
+                        short-root = λ y b. omega (arith, g .rooted .short-root y b, shrinks y b);
+                        short = short-more;
+                        from = way-more;
+                        inside = λ y b i.
+                            let far : val (t .distance) e ≤ val (r .distance) e′ = beyond e′ (q .0) (sym (same-rank e′) ∙ q .1) in
+                            let i′ : 0 < val (s .rank) y = omega (arith, same-rank y, i) in
+                            elim (was y i′) [
+                              | inl o ↦ omega (arith, far, e-same, ap (val (r .distance)) o)
+                              | inr k ↦ omega (arith, far, inside-same y b i′, g .rooted .inside y b k)
+                            ];
+                        outside = q .2;
+                      };
                   ranks = ranks-more;
                   held = held-more;
                   count = count-more;
@@ -301,13 +301,13 @@ grown-first c p m root t a e near =
             end = q .0;
             end-outside = q .1;
             rooted =
-              record {
-                short-root = λ y l. omega (arith, a .distance y l);
-                short = λ x y k l b i. absurd (omega (arith, i, a .rank (val (m .naming) x)));
-                from = λ y l. inl (a .way y (omega (arith, c .most)), a .distance y l);
-                inside = λ y l i. absurd (omega (arith, i, a .rank y));
-                outside = q .2;
-              };
+                record {
+                  short-root = λ y l. omega (arith, a .distance y l);
+                  short = λ x y k l b i. absurd (omega (arith, i, a .rank (val (m .naming) x)));
+                  from = λ y l. inl (a .way y (omega (arith, c .most)), a .distance y l);
+                  inside = λ y l i. absurd (omega (arith, i, a .rank y));
+                  outside = q .2;
+                };
             ranks = λ y l. omega (arith, a .rank y);
             held = λ y l i. absurd (omega (arith, i, a .rank y));
             count = omega (arith, ones t (c .boards) (a .rank));

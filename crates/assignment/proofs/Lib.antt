@@ -1,6 +1,9 @@
+pub mod Certificates
 pub mod Flipping
 pub mod Growing
 pub mod Relaxing
+pub mod Reports
 pub mod Rows
 pub mod Settling
+pub mod Verdicts
 pub mod Zeros

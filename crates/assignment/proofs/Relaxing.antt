@@ -16,7 +16,7 @@ module _ (c : Costs) (p : Prices) (x d : ℕ) (t s : Tree) (k : ℕ) (v : Relaxi
       record {
         rank = v .rank;
         seen =
-          below-more (Better c p x d t s) k (v .seen) (record { inside = λ _. v .unseen k (omega arith); outside = λ z. absurd (omega arith) });
+            below-more (Better c p x d t s) k (v .seen) (record { inside = λ _. v .unseen k (omega arith); outside = λ z. absurd (omega arith) });
         unseen = λ y l. v .unseen y (omega arith);
       }
 
@@ -28,10 +28,10 @@ module _ (c : Costs) (p : Prices) (x d : ℕ) (t s : Tree) (k : ℕ) (v : Relaxi
         record {
           inside = λ h. (q .0 ∙ b .inside h .0, q .1 ∙ b .inside h .1);
           outside = λ h.
-            elim (b .outside h) [
-              | inl g ↦ inl (q .1 ∙ g .0, omega (arith, g .1, q .0), omega (arith, g .2, q .0))
-              | inr g ↦ inr (q .1 ∙ g .0, q .0 ∙ g .1, g .2)
-            ];
+              elim (b .outside h) [
+                | inl g ↦ inl (q .1 ∙ g .0, omega (arith, g .1, q .0), omega (arith, g .2, q .0))
+                | inr g ↦ inr (q .1 ∙ g .0, q .0 ∙ g .1, g .2)
+              ];
         }
 
     offered : Better c p x d t s′ k
@@ -40,10 +40,10 @@ module _ (c : Costs) (p : Prices) (x d : ℕ) (t s : Tree) (k : ℕ) (v : Relaxi
         record {
           inside = λ h. absurd (omega arith);
           outside = λ h.
-            elim (o .here) [
-              | inl g ↦ inl (g .0, omega (arith, g .1, e), omega (arith, g .1, g .2, u .0))
-              | inr g ↦ inr (g .0 ∙ u .1, g .1 ∙ u .0, omega (arith, g .2, u .0, e))
-            ];
+              elim (o .here) [
+                | inl g ↦ inl (g .0, omega (arith, g .1, e), omega (arith, g .1, g .2, u .0))
+                | inr g ↦ inr (g .0 ∙ u .1, g .1 ∙ u .0, omega (arith, g .2, u .0, e))
+              ];
         }
 
     pub relaxing-offer : Relaxing c p x d t s′ (k + 1)
@@ -52,7 +52,7 @@ module _ (c : Costs) (p : Prices) (x d : ℕ) (t s : Tree) (k : ℕ) (v : Relaxi
           rank = o .rank ∙ v .rank;
           seen = below-more (Better c p x d t s′) k kept offered;
           unseen = λ y l.
-            let q = o .others y (λ m. omega arith) in
-            let u = v .unseen y (omega arith) in
-            (q .0 ∙ u .0, q .1 ∙ u .1);
+              let q = o .others y (λ m. omega arith) in
+              let u = v .unseen y (omega arith) in
+              (q .0 ∙ u .0, q .1 ∙ u .1);
         }

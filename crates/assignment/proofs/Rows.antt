@@ -67,7 +67,7 @@ module _ (n : ℕ) where
   pub wrong-here : (xs : List ℕ) (k v : ℕ) (before : Option ℕ) → (n * n ≤ k) ⊎ (2 ^ 44 < v) → wrong-from (row-rule n) k before (v ∷ xs) ≡ Some k
   wrong-here xs k v before h =
       let f : (ltb k (n * n) && leb v (2 ^ 44)) ≡ false =
-          elim h [ inl a ↦ and-left (ltb k (n * n)) (leb v (2 ^ 44)) (le-ltb k (n * n) a) | inr b ↦ and-right (ltb k (n * n)) (leb v (2 ^ 44)) (lt-leb v (2 ^ 44) b) ] in
+      elim h [ inl a ↦ and-left (ltb k (n * n)) (leb v (2 ^ 44)) (le-ltb k (n * n) a) | inr b ↦ and-right (ltb k (n * n)) (leb v (2 ^ 44)) (lt-leb v (2 ^ 44) b) ] in
       rw f refl
 
   -- whatever may stand in such a list can be followed by zeros

@@ -29,9 +29,9 @@ rise-unnamed : (m : Matching) (t : Tree) (far x : ℕ) → val (m .naming) x ≡
 rise-unnamed m t far x e = cond-false (ltb (val (m .naming) x) 16) (gap-of t far (val (m .naming) x)) 0 (le-ltb (val (m .naming) x) 16 (omega arith))
 
 module _
-  (c : Costs) (p q : Prices) (m : Matching) (root : ℕ) (t : Tree) (e : ℕ)
-  (low : root < c .boards) (known : Matched (c .boards) root m 16) (fair : Fair c p m) (held : Held c p m 16)
-  (f : Found c p m root t e) (s : Settled (c .boards) m root t (val (t .distance) e) p q) where
+    (c : Costs) (p q : Prices) (m : Matching) (root : ℕ) (t : Tree) (e : ℕ)
+    (low : root < c .boards) (known : Matched (c .boards) root m 16) (fair : Fair c p m) (held : Held c p m 16)
+    (f : Found c p m root t e) (s : Settled (c .boards) m root t (val (t .distance) e) p q) where
   abbrev far : ℕ
   far = val (t .distance) e
 
@@ -66,7 +66,7 @@ module _
                           rise,
                           gap-inside t far (val (m .naming) x) i,
                           leaves (val (p .roles) x) (val (t .distance) (val (m .naming) x)) x y b (f .rooted .inside (val (m .naming) x) named i)
-                          (f .rooted .short x y a b named i)
+                              (f .rooted .short x y a b named i),
                         )
                     | inr z ↦ omega (arith, up, rise, gap-outside t far (val (m .naming) x) (omega arith), fair .feasible x y a b, s .boards y b)
                   ])
@@ -123,7 +123,7 @@ module _
               s .boards y l,
               gap-inside t far y i,
               w .length,
-              fall
+              fall,
             ))
       ]
 
@@ -153,14 +153,14 @@ route c p m root t e f =
       free = f .free;
       inside = f .end-inside;
       steps = λ y l i.
-        elim (f .rooted .from y l) [
-          | inl o ↦ inl (o .0)
-          | inr w ↦
-              inr (record {
-                below = w .below;
-                named = w .named;
-                inside = w .inside;
-                earlier = elim (w .earlier) [ inl z ↦ absurd (omega arith) | inr k ↦ k ];
-              })
-        ];
+          elim (f .rooted .from y l) [
+            | inl o ↦ inl (o .0)
+            | inr w ↦
+                inr (record {
+                  below = w .below;
+                  named = w .named;
+                  inside = w .inside;
+                  earlier = elim (w .earlier) [ inl z ↦ absurd (omega arith) | inr k ↦ k ];
+                })
+          ];
     }

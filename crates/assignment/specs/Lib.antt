@@ -1,4 +1,5 @@
 pub mod Costs
 pub mod Paths
+pub mod Plans
 pub mod Search
 pub mod Trees

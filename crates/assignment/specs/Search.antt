@@ -20,8 +20,8 @@ val xs k = getD xs k 0
 pub record Offered (t : Tree) (y x r : ℕ) (s : Tree) : Type 0 where
   pub rank : s .rank ≡ t .rank
   pub here :
-    ((val (s .way) y ≡ x) × (val (s .distance) y ≡ r) × (r ≤ val (t .distance) y))
-    ⊎ ((val (s .way) y ≡ val (t .way) y) × (val (s .distance) y ≡ val (t .distance) y) × (val (t .distance) y ≤ r))
+      ((val (s .way) y ≡ x) × (val (s .distance) y ≡ r) × (r ≤ val (t .distance) y))
+      ⊎ ((val (s .way) y ≡ val (t .way) y) × (val (s .distance) y ≡ val (t .distance) y) × (val (t .distance) y ≤ r))
   pub others : (k : ℕ) → (k ≡ y → ⊥) → (val (s .distance) k ≡ val (t .distance) k) × (val (s .way) k ≡ val (t .way) k)
 
 -- board y after an offer from role x at distance d, if it is outside the tree
@@ -29,7 +29,7 @@ pub record Better (c : Costs) (p : Prices) (x d : ℕ) (t s : Tree) (y : ℕ) : 
   pub inside : 0 < val (t .rank) y → (val (s .distance) y ≡ val (t .distance) y) × (val (s .way) y ≡ val (t .way) y)
   pub outside : val (t .rank) y ≡ 0
       → ((val (s .way) y ≡ x) × (val (s .distance) y + val (p .roles) x ≡ d + cost-at c x y + val (p .discounts) y) × (val (s .distance) y ≤ val (t .distance) y))
-        ⊎ ((val (s .way) y ≡ val (t .way) y) × (val (s .distance) y ≡ val (t .distance) y) × (val (t .distance) y + val (p .roles) x ≤ d + cost-at c x y + val (p .discounts) y))
+      ⊎ ((val (s .way) y ≡ val (t .way) y) × (val (s .distance) y ≡ val (t .distance) y) × (val (t .distance) y + val (p .roles) x ≤ d + cost-at c x y + val (p .discounts) y))
 
 pub record Relaxed (c : Costs) (p : Prices) (x d : ℕ) (t s : Tree) : Type 0 where
   pub rank : s .rank ≡ t .rank

@@ -50,7 +50,7 @@ pub record Rooted (c : Costs) (p : Prices) (m : Matching) (root : ℕ) (t : Tree
       → val (t .distance) y + val (p .roles) x ≤ val (t .distance) (val (m .naming) x) + cost-at c x y + val (p .discounts) y
   pub from : (y : ℕ) → y < c .boards
       → ((val (t .way) y ≡ root) × (val (t .distance) y + val (p .roles) root ≡ cost-at c root y + val (p .discounts) y))
-        ⊎ From c p m t y (val (t .way) y)
+      ⊎ From c p m t y (val (t .way) y)
   pub inside : (y : ℕ) → y < c .boards → 0 < val (t .rank) y → val (t .distance) y ≤ val (t .distance) e
   pub outside : (y : ℕ) → y < c .boards → val (t .rank) y ≡ 0 → val (t .distance) e ≤ val (t .distance) y
 

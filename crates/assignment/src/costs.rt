@@ -4,6 +4,7 @@ ghost use mathlib.Core.Path.{_≡_};
 ghost use Prim.Native.Nat.{ℕ, _^_, _≤_};
 
 pub const MOST_BOARDS: usize = 16;
+
 pub const MOST_COST: u64 = 17_592_186_044_416;
 
 // What role x costs on board y stands at x * 16 + y; all else is 0.

@@ -23,7 +23,11 @@ fn plant(costs: &Costs, prices: &Prices, root: usize) -> Tree
     for y in 0..costs.boards {
         distance[y] = costs.table[root * 16 + y] + prices.discounts[y] - price;
     }
-    Tree { distance, way: [root; 16], rank: [0; 16] }
+    Tree {
+        distance,
+        way: [root; 16],
+        rank: [0; 16],
+    }
 }
 
 // Lets `board` be reached from `role` if that is shorter.
@@ -95,7 +99,13 @@ pub(crate) fn grow(costs: &Costs, prices: &Prices, matching: &Matching, root: us
     let mut step = 1;
     while matching.owner[end] < 16 {
         join(&mut tree, end, step);
-        relax(costs, prices, matching.owner[end], tree.distance[end], &mut tree);
+        relax(
+            costs,
+            prices,
+            matching.owner[end],
+            tree.distance[end],
+            &mut tree,
+        );
         end = nearest(costs.boards, &tree);
         step += 1;
     }

@@ -15,12 +15,16 @@ use faults::Cause;
 use faults::Fault;
 use faults::Layer;
 
-fn fault(call: Call, cause: Cause) -> Fault
+pub(crate) fn fault(call: Call, cause: Cause) -> Fault
     ensures layer { λ r. ⌜ r .layer ≡ Assignment ⌝ }
     ensures call { λ r. ⌜ r .call ≡ call ⌝ }
     ensures cause { λ r. ⌜ r .cause ≡ cause ⌝ }
 {
-    Fault { layer: Layer::Assignment, call, cause }
+    Fault {
+        layer: Layer::Assignment,
+        call,
+        cause,
+    }
 }
 
 impl Costs {
@@ -31,7 +35,10 @@ impl Costs {
         if boards == 0 || MOST_BOARDS < boards {
             return Err(fault(Call::Begin, Cause::Board { number: boards }));
         }
-        Ok(Costs { boards, table: [0; 256] })
+        Ok(Costs {
+            boards,
+            table: [0; 256],
+        })
     }
 
     // The table whose costs are listed row by row, a row for each role.
@@ -98,7 +105,11 @@ fn first_wrong(boards: usize, costs: &[u64]) -> Option<usize>
             return Some(k);
         }
     }
-    if costs.len() == due { None } else { Some(costs.len()) }
+    if costs.len() == due {
+        None
+    } else {
+        Some(costs.len())
+    }
 }
 
 // The rows of a list, each at a multiple of 16.

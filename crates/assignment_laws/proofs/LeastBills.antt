@@ -16,5 +16,5 @@ least-bills cost n u w σ f p t τ q =
       total-add (λ x. cost x (σ x)) (λ x. w (σ x)) n,
       total-add (λ x. cost x (τ x)) (λ x. w (τ x)) n,
       total-permuted n w σ p,
-      total-permuted n w τ q
+      total-permuted n w τ q,
     )

@@ -7,9 +7,8 @@ loop-role-holds c =
     (switching-first (c .args .boards) (c .args .root) (c .pre .most) (c .args .matching .now) (c .args .tree .now) (c .args .end) (c .pre .matched) (c .pre .route), refl)
 
 pub loop-role-again : need.loop-role-again
-loop-role-again c =
-    (
-      switching-step (c .args .boards) (c .args .root) (c .pre .most) (c .args .matching .now) (c .args .tree .now) (c .args .end) (c .pre .matched) (c .pre .route)
+loop-role-again c = (
+  switching-step (c .args .boards) (c .args .root) (c .pre .most) (c .args .matching .now) (c .args .tree .now) (c .args .end) (c .pre .matched) (c .pre .route)
       (c .loop-role .matching)
       (c .loop-role .board)
       (c .loop-role .role)
@@ -19,8 +18,8 @@ loop-role-again c =
       (c .give .last .matching)
       (c .give .ensures)
       .0,
-      refl
-    )
+  refl,
+)
 
 pub loop-role-less : need.loop-role-less
 loop-role-less c =

@@ -13,15 +13,15 @@ nearest-end-requires-in-loop-end c κs =
     record {
       most = omega (arith, c .args .costs .now .most);
       low =
-        low-more (c .args .costs .now) (c .args .prices .now) (c .args .matching .now) (c .args .root) (c .pre .matched) (c .pre .fair) (c .loop-end .tree)
-        (c .loop-end .end)
-        (c .loop-end .step)
-        (c .loop-end .inv)
-        (c .join .last .tree)
-        (c .join .ensures)
-        (c .loop-end-test .taken)
-        (c .relax .last .tree)
-        (c .relax .ensures);
+          low-more (c .args .costs .now) (c .args .prices .now) (c .args .matching .now) (c .args .root) (c .pre .matched) (c .pre .fair) (c .loop-end .tree)
+          (c .loop-end .end)
+          (c .loop-end .step)
+          (c .loop-end .inv)
+          (c .join .last .tree)
+          (c .join .ensures)
+          (c .loop-end-test .taken)
+          (c .relax .last .tree)
+          (c .relax .ensures);
     }
 
 pub loop-end-again : need.loop-end-again

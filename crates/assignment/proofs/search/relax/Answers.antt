@@ -18,11 +18,11 @@ loop-y-again c =
       | then-tree-y-eq0 w ↦
           subst (λ s. Relaxing costs prices x (c .args .base) (c .args .tree .now) s (k + 1)) (sym (w .tree-is))
           (relaxing-offer costs prices x (c .args .base) (c .args .tree .now) (c .loop-y .tree) k (c .loop-y .inv)
-           (c .args .base + cost-at costs x k + val (prices .discounts) k - val (prices .roles) x)
-           (w .offer .last .tree)
-           (w .offer .ensures)
-           (omega (arith, same, w .if-tree-y-eq0 .taken))
-           (omega (arith, c .pre .feasible k (c .loop-y-test .taken))))
+          (c .args .base + cost-at costs x k + val (prices .discounts) k - val (prices .roles) x)
+          (w .offer .last .tree)
+          (w .offer .ensures)
+          (omega (arith, same, w .if-tree-y-eq0 .taken))
+          (omega (arith, c .pre .feasible k (c .loop-y-test .taken))))
       | else-tree-y-eq0 w ↦
           subst (λ s. Relaxing costs prices x (c .args .base) (c .args .tree .now) s (k + 1)) (sym (w .tree-is))
           (relaxing-skip costs prices x (c .args .base) (c .args .tree .now) (c .loop-y .tree) k (c .loop-y .inv) (omega (arith, same, w .if-tree-y-eq0 .left)))

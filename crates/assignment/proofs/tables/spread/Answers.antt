@@ -21,22 +21,20 @@ loop-y-again c =
     let x = c .loop-x .x in
     let y = c .loop-y .y in
     let t = c .loop-y .table in
-    let v = getD (c .args .costs .now) (x * n + y) 0 in
-    (
+    let v = getD (c .args .costs .now) (x * n + y) 0 in (
       simp length-set (c .loop-y .inv .0),
       capped-set t (x * 16 + y) v (2 ^ 44) (c .loop-y .inv .1) (c .pre .capped (x * n + y)),
       spread-above n x y v (c .args .costs .now) t (omega arith) (omega arith) (omega arith) (c .loop-y .inv .0) (c .loop-y .inv .2),
-      spread-row n x y v (c .args .costs .now) t (omega arith) (omega arith) (omega arith) (c .loop-y .inv .0) refl (c .loop-y .inv .3)
+      spread-row n x y v (c .args .costs .now) t (omega arith) (omega arith) (omega arith) (c .loop-y .inv .0) refl (c .loop-y .inv .3),
     )
 
 pub loop-x-again : need.loop-x-again
-loop-x-again c =
-    (
-      c .loop-y .inv .0,
-      c .loop-y .inv .1,
-      λ a b l m.
-        elim (cases-eq a (c .loop-x .x)) [
-          | inl e ↦ rw e (c .loop-y .inv .3 b (omega arith))
-          | inr d ↦ c .loop-y .inv .2 a b (omega arith) m
-        ]
-    )
+loop-x-again c = (
+  c .loop-y .inv .0,
+  c .loop-y .inv .1,
+  λ a b l m.
+      elim (cases-eq a (c .loop-x .x)) [
+        | inl e ↦ rw e (c .loop-y .inv .3 b (omega arith))
+        | inr d ↦ c .loop-y .inv .2 a b (omega arith) m
+      ],
+)
