@@ -13,9 +13,9 @@ use Rattle.std.specs.declared.option.Option.{Option}
 use Rattle.std.specs.declared.option.Option.the-variants.{None, Some}
 use Rattle.assignment_laws.specs.Namings.{total, Permutation, bill-of, Least, Feasible, Tight}
 use Rattle.assignment_laws.proofs.LeastBills.{least-bills}
-use Rattle.assignment.specs.declared.costs.Costs.{Costs}
+use Rattle.assignment_costs.specs.declared.costs.Costs.{Costs}
 use Rattle.assignment.specs.declared.plan.Assignment.{Assignment}
-use Rattle.assignment.specs.Costs.{cost-at}
+use Rattle.assignment_costs.specs.Costs.{cost-at}
 use Rattle.assignment.specs.Plans.{name-of, role-price, board-price, Within, Certified, first-of, first-below, any-below, misnamed, beyond, unpriced, unfair, wrong-role, judge-refusal}
 use Rattle.assignment.proofs.Verdicts.{first-none, any-none}
 

@@ -1,9 +1,3 @@
 pub mod Certificates
-pub mod Flipping
-pub mod Growing
-pub mod Relaxing
 pub mod Reports
-pub mod Rows
-pub mod Settling
 pub mod Verdicts
-pub mod Zeros

@@ -1,5 +1,1 @@
-pub mod Costs
-pub mod Paths
 pub mod Plans
-pub mod Search
-pub mod Trees

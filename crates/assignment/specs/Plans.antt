@@ -23,10 +23,10 @@ use Rattle.std.specs.declared.option.Option.the-variants.{None, Some}
 use Rattle.faults.specs.declared.cause.Cause.{Cause}
 use Rattle.faults.specs.declared.cause.Cause.the-variants.{Plan}
 use Rattle.assignment_laws.specs.Namings.{Permutation, bill-of, Least}
-use Rattle.assignment.specs.declared.costs.Costs.{Costs}
+use Rattle.assignment_costs.specs.declared.costs.Costs.{Costs}
 use Rattle.assignment.specs.declared.plan.Assignment.{Assignment}
-use Rattle.assignment.specs.Costs.{cost-at}
-use Rattle.assignment.specs.Search.{val}
+use Rattle.assignment_costs.specs.Costs.{cost-at}
+use Rattle.assignment_search.specs.Search.{val}
 
 abbrev pub name-of : Assignment → ℕ → ℕ
 name-of a x = getD (a .naming) x 0

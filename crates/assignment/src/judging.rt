@@ -5,47 +5,45 @@ ghost use lib.Signed.{ltZ};
 ghost use mathlib.Core.Bool.{false, true, _||_};
 ghost use mathlib.Core.Path.{_≡_};
 ghost use Prim.Native.Nat.{ℕ, _+_, _*_, _^_, _≤_, _<_};
-ghost use Rattle.assignment.specs.Costs.{cost-at};
+ghost use Rattle.assignment_costs.specs.Costs.{cost-at};
 ghost use Rattle.assignment.specs.Plans.{Certified, name-of, role-price, board-price, Within, first-below, misnamed, beyond, unpriced, unfair, bill-refusal, judge-refusal};
-ghost use Rattle.assignment.specs.Search.{val};
+ghost use Rattle.assignment_search.specs.Search.{val};
 ghost use Rattle.assignment_laws.specs.Namings.{bill-of, Least};
 ghost use Rattle.faults.specs.Answers.{Answers};
-use crate::costs::Costs;
 use crate::plan::Assignment;
 use crate::plan::MOST_PRICE;
-use crate::tables::fault;
+use assignment_costs::Costs;
+use assignment_costs::fault;
 use faults::Call;
 use faults::Cause;
 use faults::Fault;
 use faults::Layer;
 
-impl Costs {
-    // What the naming costs. Only its first entries count, one for each role.
-    pub fn bill(&self, naming: &[usize; 16]) -> Result<u64, Fault>
-        ensures { λ r. ⌜ Answers Layer.Assignment Call.Ask (bill-refusal (now (self .entry)) (val (now (naming .entry)))) r (λ v. v ≡ bill-of (cost-at (now (self .entry))) (now (self .entry) .boards) (val (now (naming .entry)))) (Unit {0}) ⌝ }
-    {
-        if let Some(role) = first_misnamed(self.boards, naming) {
-            return Err(fault(Call::Ask, Cause::Plan { role }));
-        }
-        Ok(sum_of(self, naming))
+// What the naming costs. Only its first entries count, one for each role.
+pub fn bill(costs: &Costs, naming: &[usize; 16]) -> Result<u64, Fault>
+    ensures { λ r. ⌜ Answers Layer.Assignment Call.Ask (bill-refusal (now (costs .entry)) (val (now (naming .entry)))) r (λ v. v ≡ bill-of (cost-at (now (costs .entry))) (now (costs .entry) .boards) (val (now (naming .entry)))) (Unit {0}) ⌝ }
+{
+    if let Some(role) = first_misnamed(costs.boards, naming) {
+        return Err(fault(Call::Ask, Cause::Plan { role }));
     }
+    Ok(sum_of(costs, naming))
+}
 
-    // Whether the proposal is certified by its prices, so that no naming costs less than its bill.
-    // Only the first entries of its tables count, one for each board.
-    pub fn judge(&self, plan: &Assignment) -> Result<(), Fault>
-        ensures { λ r. ⌜ Answers Layer.Assignment Call.Judge (judge-refusal (now (self .entry)) (now (plan .entry))) r (λ _. Certified (now (self .entry)) (now (plan .entry)) × Least (cost-at (now (self .entry))) (now (self .entry) .boards) (now (plan .entry) .bill)) (Unit {0}) ⌝ }
-    {
-        if let Some(role) = first_unfit(self.boards, plan) {
-            return Err(fault(Call::Judge, Cause::Plan { role }));
-        }
-        if let Some(role) = first_unfair(self, plan) {
-            return Err(fault(Call::Judge, Cause::Plan { role }));
-        }
-        if plan.bill != sum_of(self, &plan.naming) {
-            return Err(fault(Call::Judge, Cause::Plan { role: self.boards }));
-        }
-        Ok(())
+// Whether the proposal is certified by its prices, so that no naming costs less than its bill.
+// Only the first entries of its tables count, one for each board.
+pub fn judge(costs: &Costs, plan: &Assignment) -> Result<(), Fault>
+    ensures { λ r. ⌜ Answers Layer.Assignment Call.Judge (judge-refusal (now (costs .entry)) (now (plan .entry))) r (λ _. Certified (now (costs .entry)) (now (plan .entry)) × Least (cost-at (now (costs .entry))) (now (costs .entry) .boards) (now (plan .entry) .bill)) (Unit {0}) ⌝ }
+{
+    if let Some(role) = first_unfit(costs.boards, plan) {
+        return Err(fault(Call::Judge, Cause::Plan { role }));
     }
+    if let Some(role) = first_unfair(costs, plan) {
+        return Err(fault(Call::Judge, Cause::Plan { role }));
+    }
+    if plan.bill != sum_of(costs, &plan.naming) {
+        return Err(fault(Call::Judge, Cause::Plan { role: costs.boards }));
+    }
+    Ok(())
 }
 
 // Whether the role has no board, or one that an earlier role has.

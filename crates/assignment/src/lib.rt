@@ -1,12 +1,12 @@
 // Least namings: which board takes which role so that the bill is least, with prices that prove it.
-pub mod costs;
 pub mod judging;
-mod paths;
 pub mod plan;
-mod search;
-mod solving;
-pub mod tables;
-mod tree;
+pub mod solving;
 
-pub use costs::Costs;
+pub use assignment_costs::Costs;
+pub use judging::bill;
+pub use judging::judge;
 pub use plan::Assignment;
+pub use plan::AssignmentDebug;
+pub use plan::AssignmentPartialEq;
+pub use solving::solve;

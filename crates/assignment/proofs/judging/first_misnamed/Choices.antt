@@ -1,7 +1,7 @@
 use mathlib.Core.Path.{_≡_}
 use Rattle.std.specs.declared.option.Option.the-variants.{None}
 use Rattle.assignment.specs.Plans.{first-below, misnamed}
-use Rattle.assignment.specs.Search.{val}
+use Rattle.assignment_search.specs.Search.{val}
 use Rattle.assignment.proofs.judging.first_misnamed.Given as given
 
 abbrev pub Inv-loop-role : given.InvT-loop-role

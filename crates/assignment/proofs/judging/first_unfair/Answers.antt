@@ -1,7 +1,7 @@
 use mathlib.Core.Bool.{_||_}
 use mathlib.Core.Path.{sym}
 use Rattle.assignment.specs.Plans.{unfair}
-use Rattle.assignment.specs.Search.{val}
+use Rattle.assignment_search.specs.Search.{val}
 use Rattle.assignment.proofs.Verdicts.{first-found, first-more}
 use Rattle.assignment.proofs.judging.first_unfair.Needs as need
 

@@ -7,7 +7,7 @@ use mir.Syntax.{w64}
 use mir.Val.{SFits}
 use Rattle.std.proofs.shelf.Signed.{toZ-ofZ}
 use Rattle.std.proofs.shelf.Tests.{or-left}
-use Rattle.assignment.specs.Costs.{cost-at}
+use Rattle.assignment_costs.specs.Costs.{cost-at}
 use Rattle.assignment.specs.Plans.{any-below, role-price, board-price, name-of}
 use Rattle.assignment.proofs.Verdicts.{any-found, any-more}
 use Rattle.assignment.proofs.judging.is_unfair.Needs as need

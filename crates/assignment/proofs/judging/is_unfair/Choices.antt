@@ -2,7 +2,7 @@ use mathlib.Core.Bool.{false}
 use mathlib.Core.Path.{_≡_}
 use lib.IntN.{pos, _+ℤ_}
 use lib.Signed.{ltZ}
-use Rattle.assignment.specs.Costs.{cost-at}
+use Rattle.assignment_costs.specs.Costs.{cost-at}
 use Rattle.assignment.specs.Plans.{any-below, role-price, board-price}
 use Rattle.assignment.proofs.judging.is_unfair.Given as given
 

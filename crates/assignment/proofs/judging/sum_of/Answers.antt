@@ -1,7 +1,7 @@
 use native.Mathlib.Omega.{arith}
 use Prim.Native.Nat.{_+_, _*_}
-use Rattle.assignment.specs.Costs.{cost-at}
-use Rattle.assignment.specs.Search.{val}
+use Rattle.assignment_costs.specs.Costs.{cost-at}
+use Rattle.assignment_search.specs.Search.{val}
 use Rattle.assignment_laws.proofs.Totals.{total-more}
 use Rattle.assignment.proofs.judging.sum_of.Needs as need
 

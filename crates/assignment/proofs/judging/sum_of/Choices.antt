@@ -1,7 +1,7 @@
 use mathlib.Core.Path.{_≡_}
 use Prim.Native.Nat.{_*_, _^_, _≤_}
-use Rattle.assignment.specs.Costs.{cost-at}
-use Rattle.assignment.specs.Search.{val}
+use Rattle.assignment_costs.specs.Costs.{cost-at}
+use Rattle.assignment_search.specs.Search.{val}
 use Rattle.assignment_laws.specs.Namings.{bill-of}
 use Rattle.assignment.proofs.judging.sum_of.Given as given
 

@@ -10,7 +10,7 @@ returns c =
     let costs = c .args .costs .now in
     let a : Assignment = record { naming = c .loop-x .naming; roles = c .loop-x .roles; boards = c .loop-x .boards; bill = c .sum-of-bill .result } in
     let certified =
-    shown-certified costs (c .args .prices .now) (c .args .matching .now) a (c .pre .matched) (c .pre .fair) (c .pre .held)
+    shown-certified costs (c .args .found .now .prices) (c .args .found .now .matching) a (c .pre)
     (λ k l. c .loop-x .inv .3 k (omega arith))
     (c .sum-of-bill .ensures) in
     record { certified = certified; least = certified-least costs a certified; past = λ k l. c .loop-x .inv .4 k (omega arith) }

@@ -1,0 +1,5 @@
+pub mod Flipping
+pub mod Growing
+pub mod Relaxing
+pub mod Settling
+pub mod Starting
