@@ -8,7 +8,7 @@ use lib.IntN.{ℤ, pos, negsuc, _+ℤ_, _-ℤ_, negℤ}
 use lib.Signed.{ltZ, _≤ℤ_, _<ℤ_}
 use native.Mathlib.Omega.{arith}
 use Rattle.std.proofs.shelf.Signed.{ints}
-use Rattle.std.proofs.shelf.Tests.{or-parts, leb-false, eqb-false, cases-order, eq-eqb, cond-true}
+use Rattle.std.proofs.shelf.Tests.{or-parts, leb-false, eqb-false, cases-order, eq-eqb, ne-eqb, lt-leb, or-from}
 use Rattle.std.specs.declared.option.Option.{Option}
 use Rattle.std.specs.declared.option.Option.the-variants.{None, Some}
 use Rattle.assignment_laws.specs.Namings.{total, Permutation, bill-of, Least, Feasible, Tight}
@@ -17,7 +17,7 @@ use Rattle.assignment_costs.specs.declared.costs.Costs.{Costs}
 use Rattle.assignment.specs.declared.plan.Assignment.{Assignment}
 use Rattle.assignment_costs.specs.Costs.{cost-at}
 use Rattle.assignment.specs.Plans.{name-of, role-price, board-price, Within, Certified, first-of, first-below, any-below, misnamed, beyond, unpriced, unfair, wrong-role, judge-refusal}
-use Rattle.assignment.proofs.Verdicts.{first-none, any-none}
+use Rattle.assignment.proofs.Verdicts.{first-none, any-none, all-none, all-pass}
 
 -- the natural number of an integer that is not negative
 abbrev nat : ℤ → ℕ
@@ -140,3 +140,40 @@ module _ (c : Costs) (a : Assignment) (fit : Fit c a) where
     accepted =
         let even : eqb (a .bill) (bill-of (cost-at c) (c .boards) (name-of a)) ≡ true = eq-eqb (a .bill) (bill-of (cost-at c) (c .boards) (name-of a)) bill in
         rw (fit, fair, even) refl
+
+-- a certified assignment passes every test
+not-below : (a b : ℤ) → b ≤ℤ a → ltZ a b ≡ false
+not-below a b l = grind (arith, ints)
+
+in-range : (z : ℤ) → Within z → beyond z ≡ false
+in-range z w =
+    or-from (ltZ z (negℤ (pos (2 ^ 50)))) (ltZ (pos (2 ^ 50)) z) (not-below z (negℤ (pos (2 ^ 50))) (w .0)) (not-below (pos (2 ^ 50)) z (w .1))
+
+same-le : (a b : ℤ) → a ≡ b → b ≤ℤ a
+same-le a b e = omega (arith, ints)
+
+well-named : (n : ℕ) (σ : ℕ → ℕ) → Permutation n σ → (x : ℕ) → x < n → misnamed n σ x ≡ false
+well-named n σ p x l =
+    or-from (leb n (σ x)) (any-below (λ k. eqb (σ k) (σ x)) x) (lt-leb n (σ x) (p .below x l))
+    (all-pass (λ k. eqb (σ k) (σ x)) x (λ k m. ne-eqb (σ k) (σ x) (λ e. omega (arith, p .apart k x (omega arith) l e))))
+
+module _ (c : Costs) (a : Assignment) (k : Certified c a) where
+  certified-fit : Fit c a
+  certified-fit =
+      all-none (λ x. misnamed (c .boards) (name-of a) x || unpriced a x) (c .boards)
+      (λ x l.
+      or-from (misnamed (c .boards) (name-of a) x) (unpriced a x) (well-named (c .boards) (name-of a) (k .permutation) x l)
+      (or-from (beyond (role-price a x)) (beyond (board-price a x)) (in-range (role-price a x) (k .within x l .0)) (in-range (board-price a x) (k .within x l .1))))
+
+  certified-fair : first-below (unfair c a) (c .boards) ≡ None
+  certified-fair =
+      all-none (unfair c a) (c .boards)
+      (λ x l.
+      or-from (any-below (λ y. ltZ (pos (cost-at c x y)) (role-price a x +ℤ board-price a y)) (c .boards))
+      (ltZ (role-price a x +ℤ board-price a (name-of a x)) (pos (cost-at c x (name-of a x))))
+      (all-pass (λ y. ltZ (pos (cost-at c x y)) (role-price a x +ℤ board-price a y)) (c .boards)
+      (λ y m. not-below (pos (cost-at c x y)) (role-price a x +ℤ board-price a y) (k .feasible x y l m)))
+      (not-below (role-price a x +ℤ board-price a (name-of a x)) (pos (cost-at c x (name-of a x))) (same-le (role-price a x +ℤ board-price a (name-of a x)) (pos (cost-at c x (name-of a x))) (k .tight x l))))
+
+  pub certified-accepted : judge-refusal c a ≡ None
+  certified-accepted = accepted c a certified-fit certified-fair (k .bill)

@@ -66,3 +66,15 @@ module _ (t : ℕ → Bool) where
         | inl yes′ ↦ absurd (both-ways (any-below t n) e (any-found k n yes′ l))
         | inr f ↦ f
       ]
+
+  -- and back
+  pub all-none : (n : ℕ) → ((k : ℕ) → k < n → t k ≡ false) → first-below t n ≡ None
+  all-none zero h = refl
+  all-none (suc n) h =
+      let before : first-below t n ≡ None = all-none n (λ k l. h k (omega arith)) in
+      let here : t n ≡ false = h n (omega arith) in
+      rw (before, here) refl
+
+  pub all-pass : (n : ℕ) → ((k : ℕ) → k < n → t k ≡ false) → any-below t n ≡ false
+  all-pass zero h = refl
+  all-pass (suc n) h = or-from (t n) (any-below t n) (h n (omega arith)) (all-pass n (λ k l. h k (omega arith)))

@@ -3,12 +3,12 @@
 --     Within z                   the price z is within ± 2 ^ 50
 --     Certified c a              a names each role a board of its own, its prices are in range and feasible, and tight at
 --                                the naming, and its bill is the naming's
---     Solved c a                 a is certified, no naming costs less, and all entries past the boards are 0
 --     first-below t n            the first number below n that passes the test t, if any
 --     misnamed n σ x             role x has no board below n, or one that an earlier role has
 --     unpriced a x               the price of role x or of board x is out of range
 --     unfair c a x               the prices of role x and of some board are above the cost, or below it at its own board
 --     bill-refusal, judge-refusal    the first role that fails, in this order
+--     Solved c a                 a is certified, no naming costs less, the judge accepts it, and all entries past the boards are 0
 use mathlib.Core.Bool.{Bool, true, false, cond, _||_}
 use mathlib.Core.List.{List}
 use mathlib.Core.Path.{_≡_}
@@ -47,11 +47,6 @@ pub record Certified (c : Costs) (a : Assignment) : Type 0 where
   pub tight : (x : ℕ) → x < c .boards → role-price a x +ℤ board-price a (name-of a x) ≡ pos (cost-at c x (name-of a x))
   pub bill : a .bill ≡ bill-of (cost-at c) (c .boards) (name-of a)
 
-pub record Solved (c : Costs) (a : Assignment) : Type 0 where
-  pub certified : Certified c a
-  pub least : Least (cost-at c) (c .boards) (a .bill)
-  pub past : (k : ℕ) → c .boards ≤ k → (name-of a k ≡ 0) × (role-price a k ≡ pos 0) × (board-price a k ≡ pos 0)
-
 abbrev pub first-of : Option ℕ → Option ℕ → Option ℕ
 first-of None o = o
 first-of (Some k) o = Some k
@@ -89,3 +84,9 @@ wrong-role c a =
 
 abbrev pub judge-refusal : Costs → Assignment → Option Cause
 judge-refusal c a = mapped Plan (wrong-role c a)
+
+pub record Solved (c : Costs) (a : Assignment) : Type 0 where
+  pub certified : Certified c a
+  pub least : Least (cost-at c) (c .boards) (a .bill)
+  pub accepted : judge-refusal c a ≡ None
+  pub past : (k : ℕ) → c .boards ≤ k → (name-of a k ≡ 0) × (role-price a k ≡ pos 0) × (board-price a k ≡ pos 0)

@@ -5,6 +5,7 @@
 --     place-refusal c x y    why table c has no cost of role x on board y
 --     write-refusal c x y v  why v cannot be written there
 --     rows-refusal n costs   why the list gives no table of n boards
+--     Wrong-rows             the first forbidden index of a list of costs is where no right list agrees with it any more
 --     Zeroed, Rowed, Written what a table is after the call
 use mathlib.Core.Bool.{Bool, true, false, cond, _||_, _&&_}
 use mathlib.Core.List.{List}
@@ -15,7 +16,7 @@ use lib.ListN.{getD, length}
 use Rattle.std.specs.Options.{mapped}
 use Rattle.std.specs.declared.option.Option.{Option}
 use Rattle.std.specs.declared.option.Option.the-variants.{None, Some}
-use Rattle.faults.specs.Lists.{Rule, first-wrong}
+use Rattle.faults.specs.Lists.{Rule, first-wrong, WrongAt}
 use Rattle.faults.specs.declared.cause.Cause.{Cause}
 use Rattle.faults.specs.declared.cause.Cause.the-variants.{Board, Beyond}
 use Rattle.assignment_costs.specs.declared.costs.Costs.{Costs}
@@ -59,3 +60,6 @@ pub record Written (c : Costs) (x y v : ℕ) (d : Costs) : Type 0 where
   pub count : d .boards ≡ c .boards
   pub here : cost-at d x y ≡ v
   pub others : (a b : ℕ) → b < 16 → (a ≡ x → b ≡ y → ⊥) → cost-at d a b ≡ cost-at c a b
+
+abbrev pub Wrong-rows : Type 0
+Wrong-rows = (n : ℕ) (costs : List ℕ) (i : ℕ) → first-wrong (row-rule n) costs ≡ Some i → WrongAt (row-rule n) costs i

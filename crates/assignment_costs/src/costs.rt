@@ -7,7 +7,7 @@ pub const MOST_BOARDS: usize = 16;
 
 pub const MOST_COST: u64 = 17_592_186_044_416;
 
-// What role x costs on board y stands at x * 16 + y; all else is 0.
+// As many roles as boards. What role x costs on board y stands at x * 16 + y.
 #[derive(Clone, Copy)]
 pub struct Costs {
     pub boards: usize,

@@ -2,7 +2,7 @@
 ghost use lib.ListN.{getD, length};
 ghost use mathlib.Core.Path.{_≡_};
 ghost use Prim.Native.Nat.{ℕ, _+_, _*_, _^_, _≤_, _<_};
-ghost use Rattle.assignment_costs.specs.Costs.{cost-at, count-refusal, Zeroed, place-refusal, write-refusal, Written, row-rule, rows-refusal, Rowed, Spread};
+ghost use Rattle.assignment_costs.specs.Costs.{cost-at, count-refusal, Zeroed, place-refusal, write-refusal, Written, row-rule, rows-refusal, Rowed, Spread, Wrong-rows};
 ghost use Rattle.faults.specs.Answers.{Answers};
 ghost use Rattle.faults.specs.Lists.{first-wrong};
 ghost use Rattle.faults.specs.declared.fault.Call.the-variants.{Begin, Look, Make, Put};
@@ -54,13 +54,6 @@ impl Costs {
         }
         let table = spread(boards, costs);
         Ok(Costs { boards, table })
-    }
-
-    // How many roles and boards the table has.
-    pub fn boards(&self) -> usize
-        ensures { λ r. ⌜ r ≡ now (self .entry) .boards ⌝ }
-    {
-        self.boards
     }
 
     // What `role` costs on `board`.
@@ -127,4 +120,11 @@ fn spread(boards: usize, costs: &[u64]) -> [u64; 256]
         }
     }
     table
+}
+
+// Names the law of wrong lists for lists of costs. It answers true.
+pub fn wrong_rows_stand() -> bool
+    ensures { λ _. ⌜ Wrong-rows ⌝ }
+{
+    true
 }

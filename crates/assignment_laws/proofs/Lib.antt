@@ -1,2 +1,3 @@
-pub mod Totals
 pub mod LeastBills
+pub mod SmallTables
+pub mod Totals

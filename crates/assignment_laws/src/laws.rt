@@ -1,10 +1,20 @@
-// The law of least bills.
+// The law of least bills, and two small tables.
 ghost use Rattle.assignment_laws.specs.Namings.{Least-bills};
+ghost use Rattle.assignment_laws.specs.Small.{Cheapest-first, Exchange};
 
 // Names the law: feasible prices that are tight at a naming make its bill the least of all namings' bills.
 // It answers true.
 pub fn least_bills_stand() -> bool
     ensures { λ _. ⌜ Least-bills ⌝ }
+{
+    true
+}
+
+// Names two tables worked by hand: where giving out the cheapest pair first is not least, and where an exchange is.
+// It answers true.
+pub fn small_tables_stand() -> bool
+    ensures cheapest_first { λ _. ⌜ Cheapest-first ⌝ }
+    ensures exchange { λ _. ⌜ Exchange ⌝ }
 {
     true
 }

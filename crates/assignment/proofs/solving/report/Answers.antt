@@ -1,7 +1,7 @@
 use native.Mathlib.Omega.{arith}
 use Prim.Native.Nat.{_<_}
 use Rattle.assignment.specs.declared.plan.Assignment.{Assignment}
-use Rattle.assignment.proofs.Certificates.{certified-least}
+use Rattle.assignment.proofs.Certificates.{certified-least, certified-accepted}
 use Rattle.assignment.proofs.Reports.{shown-certified}
 use Rattle.assignment.proofs.solving.report.Needs as need
 
@@ -13,4 +13,4 @@ returns c =
     shown-certified costs (c .args .found .now .prices) (c .args .found .now .matching) a (c .pre)
     (λ k l. c .loop-x .inv .3 k (omega arith))
     (c .sum-of-bill .ensures) in
-    record { certified = certified; least = certified-least costs a certified; past = λ k l. c .loop-x .inv .4 k (omega arith) }
+    record { certified = certified; least = certified-least costs a certified; accepted = certified-accepted costs a certified; past = λ k l. c .loop-x .inv .4 k (omega arith) }

@@ -1,0 +1,5 @@
+use Rattle.assignment_laws.proofs.SmallTables.{cheapest-first, exchange}
+use Rattle.assignment_laws.proofs.laws.small_tables_stand.Needs as need
+
+pub returns : need.returns
+returns c = record { cheapest-first = cheapest-first; exchange = exchange }
