@@ -28,7 +28,7 @@ fn field(bytes: &[u8], at: usize, width: usize, low: i64, high: i64) -> Option<i
 }
 
 // The number from `low` to `high` in the four columns at `at`, if there is one.
-pub fn small(bytes: &[u8], at: usize, low: usize, high: usize) -> Option<usize>
+pub(crate) fn small(bytes: &[u8], at: usize, low: usize, high: usize) -> Option<usize>
     requires { ⌜ (at < 2 ^ 32) × (low ≤ 999) × (high ≤ 999) ⌝ }
     ensures value { λ r. ⌜ mapped pos r ≡ reads 4 (pos low) (pos high) (part (now (bytes .entry)) at 4) ⌝ }
     ensures found { λ r. ⌜ BySome r (Unit {0}) (λ n. (low ≤ n) × (n ≤ high) × (part (now (bytes .entry)) at 4 ≡ text 4 (pos n))) ⌝ }
@@ -38,7 +38,7 @@ pub fn small(bytes: &[u8], at: usize, low: usize, high: usize) -> Option<usize>
 }
 
 // The number from `low` to `high` in the twenty columns at `at`, if there is one.
-pub fn wide(bytes: &[u8], at: usize, low: i64, high: i64) -> Option<i64>
+pub(crate) fn wide(bytes: &[u8], at: usize, low: i64, high: i64) -> Option<i64>
     requires { ⌜ (at < 2 ^ 32) × (natAbs low ≤ 2 ^ 62) × (natAbs high ≤ 2 ^ 62) ⌝ }
     ensures value { λ r. ⌜ r ≡ reads 20 low high (part (now (bytes .entry)) at 20) ⌝ }
     ensures found { λ r. ⌜ BySome r (Unit {0}) (λ z. Reads 20 low high (part (now (bytes .entry)) at 20) z) ⌝ }
@@ -47,7 +47,7 @@ pub fn wide(bytes: &[u8], at: usize, low: i64, high: i64) -> Option<i64>
 }
 
 // Whether a line ends at `at`.
-pub fn line_ends(bytes: &[u8], at: usize) -> bool
+pub(crate) fn line_ends(bytes: &[u8], at: usize) -> bool
     requires { ⌜ at < 2 ^ 32 ⌝ }
     ensures { λ r. ⌜ r ≡ sameBytes (10 ∷ []) (part (now (bytes .entry)) at 1) ⌝ }
 {

@@ -54,7 +54,7 @@ fn value(field: &[u8]) -> Option<i64>
 }
 
 // The number from `low` to `high` whose text the field is, if there is one.
-pub fn number(field: &[u8], low: i64, high: i64) -> Option<i64>
+pub(crate) fn number(field: &[u8], low: i64, high: i64) -> Option<i64>
     requires width { ⌜ length (now field) ≤ 20 ⌝ }
     requires limits { ⌜ (natAbs low ≤ 2 ^ 62) × (natAbs high ≤ 2 ^ 62) ⌝ }
     requires room { ⌜ ((z : ℤ) → low ≤ℤ z → z ≤ℤ high → length (signed z) ≤ length (now field)) ⌝ }

@@ -25,7 +25,7 @@ fn digits(magnitude: u64) -> ([u8; 20], usize)
     (columns, place)
 }
 
-pub fn numeral(z: i64) -> [u8; 20]
+pub(crate) fn numeral(z: i64) -> [u8; 20]
     requires { ⌜ natAbs z < 10 ^ 19 ⌝ }
     ensures { λ r. ⌜ r ≡ text 20 z ⌝ }
 {

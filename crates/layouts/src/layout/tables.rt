@@ -8,7 +8,7 @@ ghost use Rattle.splits.specs.Places.{room, start, total};
 use splits::Order;
 
 // A table that begins with the items and is blank after them.
-pub fn table<T: Copy, const N: usize>(items: &[T], blank: T) -> [T; N]
+pub(crate) fn table<T: Copy, const N: usize>(items: &[T], blank: T) -> [T; N]
     requires { ⌜ length (now items) ≤ N ⌝ }
     ensures items { λ r. ⌜ take (length (now (items .entry))) r ≡ now (items .entry) ⌝ }
     ensures rest { λ r. ⌜ drop (length (now (items .entry))) r ≡ replicate (N - length (now (items .entry))) blank ⌝ }
@@ -42,7 +42,7 @@ fn block_room(
 
 // For each block how far from the beginning of its owner's part it begins, and for each board how many
 // elements its blocks have in all.
-pub fn tally(
+pub(crate) fn tally(
     order: Order,
     row_splits: &[u16],
     column_splits: &[u16],
