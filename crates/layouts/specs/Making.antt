@@ -9,7 +9,7 @@
 use mathlib.Core.Bool.{cond, _&&_}
 use mathlib.Core.List.{List, [], _∷_}
 use mathlib.Core.Path.{_≡_}
-use Prim.Native.Nat.{ℕ, _-_, _*_, _≤_}
+use Prim.Native.Nat.{ℕ, _-_, _*_, _≤_, _<_}
 use lib.Dec.{eqb, leb}
 use lib.ListN.{length, getD, drop, replicate}
 use Rattle.std.specs.Options.{isSome, mapped}
@@ -26,6 +26,7 @@ use Rattle.splits.specs.declared.order.Order.{Order}
 use Rattle.splits.specs.declared.order.Order.the-variants.{RowMajor, ColumnMajor}
 use Rattle.splits.specs.Blocks.{grid}
 use Rattle.splits.specs.Owners.{owner-rule}
+use Rattle.splits.specs.Places.{total}
 use Rattle.splits.specs.Splits.{split-rule, spans}
 
 abbrev pub topmost : List (Option Cause) → Option Cause
@@ -78,6 +79,7 @@ pub record Built (o : Order) (n high wide : ℕ) (rs cs os : List ℕ) (l : Layo
   pub row-rest : drop (length rs) (l .«row_splits») ≡ replicate (33 - length rs) 0
   pub column-rest : drop (length cs) (l .«column_splits») ≡ replicate (33 - length cs) 0
   pub owner-rest : drop (length os) (l .owners) ≡ replicate (1024 - length os) 0
+  pub totals : (p : ℕ) → p < 16 → getD (l .totals) p 0 ≡ total (grid rs cs os o) p
   pub start-rest : (b : ℕ) → length os ≤ b → getD (l .starts) b 0 ≡ 0
 
 abbrev pub Made : ℕ → ℕ → ℕ → ℕ → List ℕ → List ℕ → List ℕ → Layout → Type 0

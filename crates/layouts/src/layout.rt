@@ -14,7 +14,7 @@ mod tables;
 
 use splits::Order;
 
-// The tables have the greatest lengths that the rules allow; what stands past the used part is never read.
+// The tables have the greatest lengths that the rules allow; past the used parts stand zeros, never read.
 // `starts` has for each block how far from the beginning of its owner's part it begins, and `totals` for
 // each board how many elements its blocks have in all.
 #[derive(Clone, Copy)]

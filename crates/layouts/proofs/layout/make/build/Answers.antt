@@ -90,5 +90,6 @@ returns c =
       row-rest = c .table .ensures .rest;
       column-rest = c .table-2 .ensures .rest;
       owner-rest = c .table-3 .ensures .rest;
+      totals = c .tally .ensures .totals;
       start-rest = c .tally .ensures .rest;
     }
