@@ -125,3 +125,9 @@ module _ (n x y v : ℕ) (costs table : List ℕ) (most : n ≤ 16) (lx : x < n)
             (let ne : x * 16 + b ≢ x * 16 + y = λ s. q (omega arith) in
             getD-set-other table (x * 16 + y) (x * 16 + b) v 0 ne ∙ h b (omega arith))
       ]
+
+  pub spread-past : ((a b : ℕ) → b < 16 → (n ≤ a) ⊎ (n ≤ b) → getD table (a * 16 + b) 0 ≡ 0)
+      → (a b : ℕ) → b < 16 → (n ≤ a) ⊎ (n ≤ b) → getD (set table (x * 16 + y) v) (a * 16 + b) 0 ≡ 0
+  spread-past h a b l o =
+      let ne : a * 16 + b ≢ x * 16 + y = elim o [ inl m ↦ (λ q. omega arith) | inr m ↦ (λ q. omega arith) ] in
+      getD-set-other table (x * 16 + y) (a * 16 + b) v 0 ne ∙ h a b l o

@@ -9,6 +9,7 @@
 --     Zeroed, Rowed, Written what a table is after the call
 use mathlib.Core.Bool.{Bool, true, false, cond, _||_, _&&_}
 use mathlib.Core.List.{List}
+use mathlib.Core.Logic.{_⊎_}
 use mathlib.Core.Path.{_≡_}
 use Prim.Native.Nat.{ℕ, _+_, _*_, _^_, _≤_, _<_}
 use lib.Dec.{eqb, ltb, leb}
@@ -51,10 +52,12 @@ pub record Spread (n : ℕ) (costs table : List ℕ) : Type 0 where
   pub sized : length table ≡ 256
   pub entries : (x y : ℕ) → x < n → y < n → getD table (x * 16 + y) 0 ≡ getD costs (x * n + y) 0
   pub capped : (k : ℕ) → getD table k 0 ≤ 2 ^ 44
+  pub past : (x y : ℕ) → y < 16 → (n ≤ x) ⊎ (n ≤ y) → getD table (x * 16 + y) 0 ≡ 0
 
 pub record Rowed (n : ℕ) (costs : List ℕ) (c : Costs) : Type 0 where
   pub count : c .boards ≡ n
   pub entries : (x y : ℕ) → x < n → y < n → cost-at c x y ≡ getD costs (x * n + y) 0
+  pub past : (x y : ℕ) → y < 16 → (n ≤ x) ⊎ (n ≤ y) → cost-at c x y ≡ 0
 
 pub record Written (c : Costs) (x y v : ℕ) (d : Costs) : Type 0 where
   pub count : d .boards ≡ c .boards

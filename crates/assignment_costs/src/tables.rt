@@ -1,5 +1,6 @@
 // Tables of costs: making, reading and writing them.
 ghost use lib.ListN.{getD, length};
+ghost use mathlib.Core.Bool.{true};
 ghost use mathlib.Core.Path.{_≡_};
 ghost use Prim.Native.Nat.{ℕ, _+_, _*_, _^_, _≤_, _<_};
 ghost use Rattle.assignment_costs.specs.Costs.{cost-at, count-refusal, Zeroed, place-refusal, write-refusal, Written, row-rule, rows-refusal, Rowed, Spread, Wrong-rows};
@@ -124,7 +125,8 @@ fn spread(boards: usize, costs: &[u64]) -> [u64; 256]
 
 // Names the law of wrong lists for lists of costs. It answers true.
 pub fn wrong_rows_stand() -> bool
-    ensures { λ _. ⌜ Wrong-rows ⌝ }
+    ensures law { λ _. ⌜ Wrong-rows ⌝ }
+    ensures answer { λ r. ⌜ r ≡ true ⌝ }
 {
     true
 }

@@ -1,11 +1,14 @@
 // The law of least bills, and two small tables.
+ghost use mathlib.Core.Bool.{true};
+ghost use mathlib.Core.Path.{_≡_};
 ghost use Rattle.assignment_laws.specs.Namings.{Least-bills};
 ghost use Rattle.assignment_laws.specs.Small.{Cheapest-first, Exchange};
 
 // Names the law: feasible prices that are tight at a naming make its bill the least of all namings' bills.
 // It answers true.
 pub fn least_bills_stand() -> bool
-    ensures { λ _. ⌜ Least-bills ⌝ }
+    ensures law { λ _. ⌜ Least-bills ⌝ }
+    ensures answer { λ r. ⌜ r ≡ true ⌝ }
 {
     true
 }
@@ -15,6 +18,7 @@ pub fn least_bills_stand() -> bool
 pub fn small_tables_stand() -> bool
     ensures cheapest_first { λ _. ⌜ Cheapest-first ⌝ }
     ensures exchange { λ _. ⌜ Exchange ⌝ }
+    ensures answer { λ r. ⌜ r ≡ true ⌝ }
 {
     true
 }

@@ -1,6 +1,6 @@
 // The search for a least naming, along shortest paths.
 mod paths;
-pub mod search;
+mod search;
 pub mod solving;
 pub mod tree;
 
