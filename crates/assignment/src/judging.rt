@@ -21,10 +21,10 @@ use faults::Layer;
 
 // What the naming costs. Only its first entries count, one for each role.
 pub fn bill(costs: &Costs, naming: &[usize; 16]) -> Result<u64, Fault>
-    ensures { λ r. ⌜ Answers Layer.Assignment Call.Ask (bill-refusal (now (costs .entry)) (val (now (naming .entry)))) r (λ v. v ≡ bill-of (cost-at (now (costs .entry))) (now (costs .entry) .boards) (val (now (naming .entry)))) (Unit {0}) ⌝ }
+    ensures { λ r. ⌜ Answers Layer.Assignment Call.Bill (bill-refusal (now (costs .entry)) (val (now (naming .entry)))) r (λ v. v ≡ bill-of (cost-at (now (costs .entry))) (now (costs .entry) .boards) (val (now (naming .entry)))) (Unit {0}) ⌝ }
 {
     if let Some(role) = first_misnamed(costs.boards, naming) {
-        return Err(fault(Call::Ask, Cause::Plan { role }));
+        return Err(fault(Call::Bill, Cause::Plan { role }));
     }
     Ok(sum_of(costs, naming))
 }

@@ -6,7 +6,7 @@ ghost use Prim.Native.Nat.{ℕ, _+_, _*_, _^_, _≤_, _<_};
 ghost use Rattle.assignment_costs.specs.Costs.{cost-at, count-refusal, Zeroed, place-refusal, write-refusal, Written, row-rule, rows-refusal, Rowed, Spread, Wrong-rows};
 ghost use Rattle.faults.specs.Answers.{Answers};
 ghost use Rattle.faults.specs.Lists.{first-wrong};
-ghost use Rattle.faults.specs.declared.fault.Call.the-variants.{Begin, Look, Make, Put};
+ghost use Rattle.faults.specs.declared.fault.Call.the-variants.{At, Make, Set, Zero};
 ghost use Rattle.faults.specs.declared.fault.Layer.the-variants.{Assignment};
 use crate::costs::Costs;
 use crate::costs::MOST_BOARDS;
@@ -32,10 +32,10 @@ pub fn fault(call: Call, cause: Cause) -> Fault
 impl Costs {
     // The table of `boards` boards on which every role costs nothing.
     pub fn zero(boards: usize) -> Result<Costs, Fault>
-        ensures { λ r. ⌜ Answers Assignment Begin (count-refusal boards) r (Zeroed boards) (Unit {0}) ⌝ }
+        ensures { λ r. ⌜ Answers Assignment Zero (count-refusal boards) r (Zeroed boards) (Unit {0}) ⌝ }
     {
         if boards == 0 || MOST_BOARDS < boards {
-            return Err(fault(Call::Begin, Cause::Board { number: boards }));
+            return Err(fault(Call::Zero, Cause::Board { number: boards }));
         }
         Ok(Costs {
             boards,
@@ -59,29 +59,29 @@ impl Costs {
 
     // What `role` costs on `board`.
     pub fn at(&self, role: usize, board: usize) -> Result<u64, Fault>
-        ensures { λ r. ⌜ Answers Assignment Look (place-refusal (now (self .entry)) role board) r (λ v. v ≡ cost-at (now (self .entry)) role board) (Unit {0}) ⌝ }
+        ensures { λ r. ⌜ Answers Assignment At (place-refusal (now (self .entry)) role board) r (λ v. v ≡ cost-at (now (self .entry)) role board) (Unit {0}) ⌝ }
     {
         if self.boards <= role {
-            return Err(fault(Call::Look, Cause::Board { number: role }));
+            return Err(fault(Call::At, Cause::Board { number: role }));
         }
         if self.boards <= board {
-            return Err(fault(Call::Look, Cause::Board { number: board }));
+            return Err(fault(Call::At, Cause::Board { number: board }));
         }
         Ok(self.table[role * 16 + board])
     }
 
     // Sets what `role` costs on `board`.
     pub fn set(&mut self, role: usize, board: usize, cost: u64) -> Result<(), Fault>
-        ensures { λ r. ⌜ Answers Assignment Put (write-refusal (now (self .entry)) role board cost) r (λ _. Written (now (self .entry)) role board cost (now (self .exit))) (now (self .exit) ≡ now (self .entry)) ⌝ }
+        ensures { λ r. ⌜ Answers Assignment Set (write-refusal (now (self .entry)) role board cost) r (λ _. Written (now (self .entry)) role board cost (now (self .exit))) (now (self .exit) ≡ now (self .entry)) ⌝ }
     {
         if self.boards <= role {
-            return Err(fault(Call::Put, Cause::Board { number: role }));
+            return Err(fault(Call::Set, Cause::Board { number: role }));
         }
         if self.boards <= board {
-            return Err(fault(Call::Put, Cause::Board { number: board }));
+            return Err(fault(Call::Set, Cause::Board { number: board }));
         }
         if MOST_COST < cost {
-            return Err(fault(Call::Put, Cause::Beyond { index: 0 }));
+            return Err(fault(Call::Set, Cause::Beyond { index: 0 }));
         }
         self.table[role * 16 + board] = cost;
         Ok(())

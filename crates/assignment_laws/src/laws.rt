@@ -1,23 +1,12 @@
-// The law of least bills, and two small tables.
+// The law of least bills.
 ghost use mathlib.Core.Bool.{true};
 ghost use mathlib.Core.Path.{_≡_};
 ghost use Rattle.assignment_laws.specs.Namings.{Least-bills};
-ghost use Rattle.assignment_laws.specs.Small.{Cheapest-first, Exchange};
 
 // Names the law: feasible prices that are tight at a naming make its bill the least of all namings' bills.
 // It answers true.
 pub fn least_bills_stand() -> bool
     ensures law { λ _. ⌜ Least-bills ⌝ }
-    ensures answer { λ r. ⌜ r ≡ true ⌝ }
-{
-    true
-}
-
-// Names two tables worked by hand: where giving out the cheapest pair first is not least, and where an exchange is.
-// It answers true.
-pub fn small_tables_stand() -> bool
-    ensures cheapest_first { λ _. ⌜ Cheapest-first ⌝ }
-    ensures exchange { λ _. ⌜ Exchange ⌝ }
     ensures answer { λ r. ⌜ r ≡ true ⌝ }
 {
     true

@@ -5,7 +5,7 @@ use faults::Fault;
 use links::Link;
 
 // Puts a frame and looks at what the board has now.
-pub fn put_and_look<L: Link>(
+pub(crate) fn put_and_look<L: Link>(
     link: &mut L,
     board: usize,
     frame: &[u32],

@@ -22,7 +22,7 @@ pub struct Distance {
 }
 
 impl Distance {
-    pub fn new(boards: usize) -> Result<Distance, Fault>
+    pub(crate) fn new(boards: usize) -> Result<Distance, Fault>
         ensures answer { λ r. ⌜ Answers Layer.Tariffs Call.Make (boards-refusal boards) r (λ t. t .boards ≡ boards) (Unit {0}) ⌝ }
     {
         check_boards(boards)?;
