@@ -171,25 +171,59 @@ fn splits_rise_from_zero_to_the_size() -> Result<(), Fail> {
     )
 }
 
+// The numbers from 0 to 33.
+const RISING: [u16; 34] = [
+    0,
+    1,
+    2,
+    3,
+    4,
+    5,
+    6,
+    7,
+    8,
+    9,
+    10,
+    11,
+    12,
+    13,
+    14,
+    15,
+    16,
+    17,
+    18,
+    19,
+    20,
+    21,
+    22,
+    23,
+    24,
+    25,
+    26,
+    27,
+    28,
+    29,
+    30,
+    31,
+    32,
+    33,
+];
+
 #[test]
 fn thirty_three_splits_pass_and_thirty_four_do_not() -> Result<(), Fail> {
-    let mut splits = [0u16; 34];
-    for i in 0..34u16 {
-        splits[i as usize] = i;
-    }
     check_eq(
-        cause_of(Layout::new('R', 1, 32, 1, &splits[0..33], &[0, 1], &[0; 32])),
+        cause_of(Layout::new('R', 1, 32, 1, &RISING[0..33], &[0, 1], &[0; 32])),
         None,
     )?;
     check_eq(
-        cause_of(Layout::new('R', 1, 32, 1, &splits, &[0, 1], &[0; 32])),
+        cause_of(Layout::new('R', 1, 32, 1, &RISING, &[0, 1], &[0; 32])),
         Some(Cause::Splits {
             side: Side::Rows,
             index: 33,
         }),
     )?;
     check_eq(
-        cause_of(Layout::new('R', 1, 33, 1, &splits, &[0, 1], &[0; 33])),
+        cause_of(Layout::new('R', 1, 33, 1, &RISING, &[0, 1], &[0; 33])),
         Some(Cause::Splits {
             side: Side::Rows,
             index: 32,
