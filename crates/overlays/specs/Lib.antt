@@ -1,0 +1,5 @@
+pub mod Laws
+pub mod Lines
+pub mod Overlays
+pub mod Packages
+pub mod Turns
