@@ -14,7 +14,7 @@ use Rattle.overlays.specs.Turns.{turned, source-cover}
 use Rattle.overlays.specs.Lines.{Lines, Union}
 use Rattle.overlays.specs.Overlays.{Overlay, Holds, Joined, down, across, cells, top, bottom, left, right, target-block, source-block, role, sender}
 use Rattle.overlays.specs.Laws.{Lies, Tiled, In-blocks}
-use Rattle.overlays.proofs.Rising.{span-of, span-one, in-side, same-covering}
+use Rattle.overlays.proofs.Rising.{span-of, span-one, in-side, same-covering, of-first, of-second}
 
 pub turned-cuts : (op : Operation) (rows columns : ℕ) (rs cs : List ℕ) → Cuts (turned op rows columns) rs → Cuts (turned op columns rows) cs → Cuts rows (turned op rs cs)
 turned-cuts Identity rows columns rs cs u v = u
@@ -104,14 +104,14 @@ module _ (n rows columns : ℕ) (o : Overlay) (j : Joined n rows columns o) wher
     pub same-target : cover (o .target) r c ≡ target-block o k
     same-target =
         target-same (o .target) r c (top o k) (left o k)
-        (same-covering rows (o .target .row-cuts) (o .row-lines) (j .target .row-side) row-lines (j .row-side .of-first) (k / across o) r row-within)
-        (same-covering columns (o .target .column-cuts) (o .column-lines) (j .target .column-side) column-lines (j .column-side .of-first) (k % across o) c column-within)
+        (same-covering rows (o .target .row-cuts) (o .row-lines) (j .target .row-side) row-lines (of-first rows (o .target .row-cuts) (turned (o .operation) (o .source .row-cuts) (o .source .column-cuts)) (o .row-lines) (j .row-side)) (k / across o) r row-within)
+        (same-covering columns (o .target .column-cuts) (o .column-lines) (j .target .column-side) column-lines (of-first columns (o .target .column-cuts) (turned (o .operation) (o .source .column-cuts) (o .source .row-cuts)) (o .column-lines) (j .column-side)) (k % across o) c column-within)
 
     pub same-source : source-cover (o .operation) (o .source) r c ≡ source-block o k
     same-source =
         source-same (o .operation) (o .source) r c (top o k) (left o k)
-        (same-covering rows (turned (o .operation) (o .source .row-cuts) (o .source .column-cuts)) (o .row-lines) source-rows row-lines (j .row-side .of-second) (k / across o) r row-within)
-        (same-covering columns (turned (o .operation) (o .source .column-cuts) (o .source .row-cuts)) (o .column-lines) source-columns column-lines (j .column-side .of-second) (k % across o) c column-within)
+        (same-covering rows (turned (o .operation) (o .source .row-cuts) (o .source .column-cuts)) (o .row-lines) source-rows row-lines (of-second rows (o .target .row-cuts) (turned (o .operation) (o .source .row-cuts) (o .source .column-cuts)) (o .row-lines) (j .row-side)) (k / across o) r row-within)
+        (same-covering columns (turned (o .operation) (o .source .column-cuts) (o .source .row-cuts)) (o .column-lines) source-columns column-lines (of-second columns (o .target .column-cuts) (turned (o .operation) (o .source .column-cuts) (o .source .row-cuts)) (o .column-lines) (j .column-side)) (k % across o) c column-within)
 
     target-covers : Covers (o .target) (target-block o k) r c
     target-covers = subst (λ b. Covers (o .target) b r c) same-target (covers n rows columns (o .target) (j .target) r c (in-matrix .0) (in-matrix .1))

@@ -3,15 +3,17 @@ use mathlib.Core.Bool.{cond}
 use mathlib.Core.List.{List}
 use mathlib.Core.Logic.{_⊎_, inl, inr}
 use mathlib.Core.Path.{_≡_, refl, sym, ap, subst, _∙_}
-use Prim.Native.Nat.{ℕ, zero, suc, _+_, _-_, _≤_, _<_}
+use Prim.Native.Nat.{ℕ, zero, suc, _+_, _-_, _≤_, _<_, min}
+use native.Mathlib.Nat.{min-eq-left, min-eq-right}
 use native.Mathlib.Omega.{arith}
 use lib.Dec.{eqb}
-use lib.ListN.{length, getD}
-use Rattle.std.proofs.shelf.Tests.{cases-bool, cases-eq, cond-true, cond-false, eqb-true, eqb-false, eq-eqb}
+use lib.ListN.{length, getD, set}
+use Rattle.std.proofs.shelf.Lists.{getD-set-same, getD-set-other}
+use Rattle.std.proofs.shelf.Tests.{cases-bool, cases-eq, cases-lt, cond-true, cond-false, eqb-true, eqb-false, eq-eqb}
 use Rattle.splits.specs.Splits.{Cuts, Within, covering}
 use Rattle.splits.proofs.Covering.{covered}
-use Rattle.overlays.specs.Lines.{Lines, Among, Union}
-use Rattle.overlays.proofs.Rising.{cuts-lines, rises-past, some-size, at-most}
+use Rattle.overlays.specs.Lines.{Lines, Union}
+use Rattle.overlays.proofs.Rising.{Among, union-of, cuts-lines, rises-past, some-size, at-most}
 
 -- split m of xs is not above v, and the next one is
 abbrev pub From : List ℕ → ℕ → ℕ → Type 0
@@ -163,6 +165,53 @@ module _ (xs ys : List ℕ) (i j n v w i′ j′ : ℕ) (z z′ : ℕ → ℕ) (
                 ]);
       }
 
+-- one more line in the tables: the lower of the next splits
+module _ (size : ℕ) (xs ys : List ℕ) (c : Cuts size xs) (d : Cuts size ys) (i j n v w i′ j′ : ℕ) (zs ss ts : List ℕ)
+    (a : Side xs i n v (λ k. getD zs k 0) (λ k. getD ss k 0)) (b : Side ys j n v (λ k. getD zs k 0) (λ k. getD ts k 0)) (m : Merged xs ys i j n v (λ k. getD zs k 0))
+    (hx : i < length xs) (hy : j < length ys) (e : w ≡ min (getD xs i 0) (getD ys j 0))
+    (ei : i′ ≡ cond (eqb (getD xs i 0) w) (i + 1) i) (ej : j′ ≡ cond (eqb (getD ys j 0) w) (j + 1) j)
+    (lz : n < length zs) (ls : n < length ss) (lt : n < length ts) where
+  either : ((w ≡ getD xs i 0) × (w ≤ getD ys j 0)) ⊎ ((w ≡ getD ys j 0) × (w ≤ getD xs i 0))
+  either =
+      elim (cases-lt (getD xs i 0) (getD ys j 0)) [
+        | inl l ↦ (let h : getD xs i 0 ≤ getD ys j 0 = omega arith in let q : w ≡ getD xs i 0 = e ∙ min-eq-left h in inl (q, omega (arith, q, h)))
+        | inr l ↦ (let q : w ≡ getD ys j 0 = e ∙ min-eq-right l in inr (q, omega (arith, q, l)))
+      ]
+
+  low-x : w ≤ getD xs i 0
+  low-x = elim either [ inl p ↦ omega (arith, p .0) | inr p ↦ p .1 ]
+
+  low-y : w ≤ getD ys j 0
+  low-y = elim either [ inl p ↦ p .1 | inr p ↦ omega (arith, p .0) ]
+
+  pub rises-on : v < w
+  rises-on = elim either [ inl p ↦ omega (arith, p .0, a .next hx) | inr p ↦ omega (arith, p .0, b .next hy) ]
+
+  more : i + j + 1 ≤ i′ + j′
+  more =
+      let x = passed-most size xs c i w i′ hx ei in
+      let y = passed-most size ys d j w j′ hy ej in
+      elim either [ inl p ↦ omega (arith, x .2 (sym (p .0)), y .0) | inr p ↦ omega (arith, y .2 (sym (p .0)), x .0) ]
+
+  from : Among xs w ⊎ Among ys w
+  from = elim either [ inl p ↦ inl (i, hx, sym (p .0)) | inr p ↦ inr (j, hy, sym (p .0)) ]
+
+  kept : (us : List ℕ) (u k : ℕ) → k < n → getD (set us n u) k 0 ≡ getD us k 0
+  kept us u k l = getD-set-other us n k u 0 (λ q. omega (arith, q, l))
+
+  pub target-more : Side xs i′ (n + 1) w (λ k. getD (set zs n w) k 0) (λ k. getD (set ss n (i′ - 1)) k 0)
+  target-more =
+      side-more size xs c i n v w (λ k. getD zs k 0) (λ k. getD ss k 0) (λ k. getD (set zs n w) k 0) (λ k. getD (set ss n (i′ - 1)) k 0) a hx rises-on low-x
+      (kept zs w) (kept ss (i′ - 1)) (getD-set-same zs n w 0 lz) i′ ei (getD-set-same ss n (i′ - 1) 0 ls)
+
+  pub source-more : Side ys j′ (n + 1) w (λ k. getD (set zs n w) k 0) (λ k. getD (set ts n (j′ - 1)) k 0)
+  source-more =
+      side-more size ys d j n v w (λ k. getD zs k 0) (λ k. getD ts k 0) (λ k. getD (set zs n w) k 0) (λ k. getD (set ts n (j′ - 1)) k 0) b hy rises-on low-y
+      (kept zs w) (kept ts (j′ - 1)) (getD-set-same zs n w 0 lz) j′ ej (getD-set-same ts n (j′ - 1) 0 lt)
+
+  pub lines-more : Merged xs ys i′ j′ (n + 1) w (λ k. getD (set zs n w) k 0)
+  lines-more = merge-more xs ys i j n v w i′ j′ (λ k. getD zs k 0) (λ k. getD (set zs n w) k 0) m rises-on more from (kept zs w) (getD-set-same zs n w 0 lz)
+
 -- the lines are all there once the last is not below the size
 module _ (size : ℕ) (xs ys zs : List ℕ) (c : Cuts size xs) (d : Cuts size ys) (i j n v : ℕ) (z s t : ℕ → ℕ) (a : Side xs i n v z s) (b : Side ys j n v z t) (m : Merged xs ys i j n v z) (stop : size ≤ v)
     (len : length zs ≡ n) (held : (k : ℕ) → k < n → getD zs k 0 ≡ z k) where
@@ -209,15 +258,10 @@ module _ (size : ℕ) (xs ys zs : List ℕ) (c : Cuts size xs) (d : Cuts size ys
 
   pub merge-all : Union size xs ys zs
   merge-all =
-      record {
-        lines = merged-lines;
-        of-first = contains xs i s c a;
-        of-second = contains ys j t d b;
-        no-other =
-            λ x p.
-                (let e : z (p .0) ≡ x = sym (held (p .0) (omega (arith, p .1, len))) ∙ p .2 in
-                subst (λ y. Among xs y ⊎ Among ys y) e (m .each (p .0) (omega (arith, p .1, len))));
-      }
+      union-of size xs ys zs merged-lines (contains xs i s c a) (contains ys j t d b)
+      (λ x p.
+          (let e : z (p .0) ≡ x = sym (held (p .0) (omega (arith, p .1, len))) ∙ p .2 in
+          subst (λ y. Among xs y ⊎ Among ys y) e (m .each (p .0) (omega (arith, p .1, len)))))
 
   -- a line that is not the last begins in the block that covers it
   pub blocks-all : (us : List ℕ) (e : ℕ) (u : ℕ → ℕ) → Cuts size us → Side us e n v z u → (k : ℕ) → k < n - 1 → u k ≡ covering us (z k)

@@ -1,17 +1,76 @@
 -- Lists that rise strictly to a size, and the lists that they refine.
-use mathlib.Core.List.{List}
+use mathlib.Core.Bool.{Bool, true, false, _||_}
+use mathlib.Core.List.{List, [], _∷_}
 use mathlib.Core.Logic.{_⊎_, inl, inr}
 use mathlib.Core.Path.{_≡_, refl, sym, ap, subst, _∙_}
 use Prim.Native.Nat.{ℕ, zero, suc, _+_, _-_, _≤_, _<_}
 use native.Mathlib.Nat.{add-zero}
 use native.Mathlib.Numerals.{add-one}
 use native.Mathlib.Omega.{arith}
+use lib.Dec.{eqb}
 use lib.ListN.{length, getD}
 use Rattle.std.proofs.shelf.Lists.{ext-getD}
-use Rattle.std.proofs.shelf.Tests.{cases-lt, cases-order}
+use Rattle.std.proofs.shelf.Tests.{cases-bool, cases-lt, cases-order, eqb-true, eq-eqb, false≢true, or-cases, or-left, or-right}
 use Rattle.splits.specs.Splits.{Cuts, Within, spans, covering}
 use Rattle.splits.proofs.Covering.{within, covered}
-use Rattle.overlays.specs.Lines.{Lines, Among, Union}
+use Rattle.overlays.specs.Lines.{Lines, Union, among}
+
+-- v is an entry of xs
+abbrev pub Among : List ℕ → ℕ → Type 0
+Among xs v = (k : ℕ) × (k < length xs) × (getD xs k 0 ≡ v)
+
+among-true : (v : ℕ) (xs : List ℕ) → among v xs ≡ true → Among xs v
+among-true v [] e = absurd (false≢true e)
+among-true v (x ∷ xs) e =
+    elim (cases-bool (eqb v x)) [
+      | inl t ↦ (0, omega arith, sym (eqb-true v x t))
+      | inr f ↦ (let m : among v xs ≡ true = rw f at e in let r = among-true v xs m in (suc (r .0), omega (arith, r .1), r .2))
+    ]
+
+among-from : (v : ℕ) (xs : List ℕ) (k : ℕ) → k < length xs → getD xs k 0 ≡ v → among v xs ≡ true
+among-from v [] k h e = absurd (omega arith)
+among-from v (x ∷ xs) zero h e = or-left (eqb v x) (among v xs) (eq-eqb v x (sym e))
+among-from v (x ∷ xs) (suc k) h e = or-right (eqb v x) (among v xs) (among-from v xs k (omega arith) e)
+
+same-bool : (a b : Bool) → (a ≡ true → b ≡ true) → (b ≡ true → a ≡ true) → a ≡ b
+same-bool true b f g = sym (f refl)
+same-bool false true f g = g refl
+same-bool false false f g = refl
+
+-- the union, by its entries
+pub of-first : (size : ℕ) (xs ys zs : List ℕ) → Union size xs ys zs → (v : ℕ) → Among xs v → Among zs v
+of-first size xs ys zs u v a = among-true v zs (u .entries v ∙ or-left (among v xs) (among v ys) (among-from v xs (a .0) (a .1) (a .2)))
+
+pub of-second : (size : ℕ) (xs ys zs : List ℕ) → Union size xs ys zs → (v : ℕ) → Among ys v → Among zs v
+of-second size xs ys zs u v a = among-true v zs (u .entries v ∙ or-right (among v xs) (among v ys) (among-from v ys (a .0) (a .1) (a .2)))
+
+no-other : (size : ℕ) (xs ys zs : List ℕ) → Union size xs ys zs → (v : ℕ) → Among zs v → Among xs v ⊎ Among ys v
+no-other size xs ys zs u v a =
+    elim (or-cases (among v xs) (among v ys) (sym (u .entries v) ∙ among-from v zs (a .0) (a .1) (a .2))) [
+      | inl t ↦ inl (among-true v xs t)
+      | inr t ↦ inr (among-true v ys t)
+    ]
+
+pub union-of : (size : ℕ) (xs ys zs : List ℕ) → Lines size zs → ((v : ℕ) → Among xs v → Among zs v) → ((v : ℕ) → Among ys v → Among zs v)
+    → ((v : ℕ) → Among zs v → Among xs v ⊎ Among ys v) → Union size xs ys zs
+union-of size xs ys zs l f g h =
+    let put : (v : ℕ) → Among zs v → among v zs ≡ true = λ v a. among-from v zs (a .0) (a .1) (a .2) in
+    record {
+      lines = l;
+      entries =
+          λ v.
+              same-bool (among v zs) (among v xs || among v ys)
+              (λ t.
+                  (elim (h v (among-true v zs t)) [
+                    | inl a ↦ or-left (among v xs) (among v ys) (among-from v xs (a .0) (a .1) (a .2))
+                    | inr a ↦ or-right (among v xs) (among v ys) (among-from v ys (a .0) (a .1) (a .2))
+                  ]))
+              (λ t.
+                  (elim (or-cases (among v xs) (among v ys) t) [
+                    | inl a ↦ put v (f v (among-true v xs a))
+                    | inr a ↦ put v (g v (among-true v ys a))
+                  ]));
+    }
 
 pub cuts-lines : (size : ℕ) (xs : List ℕ) → Cuts size xs → Lines size xs
 cuts-lines size xs c = record { first = c .first; rises = c .rises; last = c .last; long = c .long }
@@ -108,7 +167,7 @@ module _ (size : ℕ) (zs ws : List ℕ) (l : Lines size zs) (m : Lines size ws)
   no-longer = omega (arith, same-at (length zs - 1) (omega (arith, l .long)) .0, l .long)
 
 same-entries : (size : ℕ) (xs ys zs ws : List ℕ) → Union size xs ys zs → Union size xs ys ws → (v : ℕ) → Among zs v → Among ws v
-same-entries size xs ys zs ws u w v a = elim (u .no-other v a) [ inl x ↦ w .of-first v x | inr y ↦ w .of-second v y ]
+same-entries size xs ys zs ws u w v a = elim (no-other size xs ys zs u v a) [ inl x ↦ of-first size xs ys ws w v x | inr y ↦ of-second size xs ys ws w v y ]
 
 pub union-once : (size : ℕ) (xs ys zs ws : List ℕ) → Union size xs ys zs → Union size xs ys ws → zs ≡ ws
 union-once size xs ys zs ws u w =

@@ -2,6 +2,7 @@
 // overlay, the packages that the cells make up, and the laws that drawings rest on.
 pub mod laws;
 pub mod operation;
+pub mod turns;
 
 pub use operation::Operation;
 pub use operation::OperationDebug;

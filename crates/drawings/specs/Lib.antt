@@ -1,0 +1,4 @@
+pub mod Asking
+pub mod Drawings
+pub mod Making
+pub mod Parts
