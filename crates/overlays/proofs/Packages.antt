@@ -1,12 +1,17 @@
 -- The elements of packages, counted by cells, and all together.
 use mathlib.Core.Bool.{Bool, true, false, cond, _&&_}
 use mathlib.Core.List.{List}
+use mathlib.Core.Logic.{inl, inr}
 use mathlib.Core.Path.{_≡_, refl, sym, ap, subst, _∙_}
 use Prim.Native.Nat.{ℕ, zero, suc, _+_, _-_, _*_, _/_, _%_, _≤_, _<_}
 use native.Mathlib.Nat.{mul-one, mul-zero, mul-assoc}
+use native.Mathlib.Numerals.{add-one}
 use native.Mathlib.Omega.{arith}
 use lib.Dec.{eqb}
-use lib.ListN.{length, getD}
+use lib.ListN.{length, getD, set}
+use Rattle.std.proofs.shelf.Bits.{div-mul-add, mod-mul-add, div-add-mod'}
+use Rattle.std.proofs.shelf.Lists.{getD-set-same, getD-set-other}
+use Rattle.std.proofs.shelf.Tests.{cases-eq, cond-true, cond-false, eq-eqb, ne-eqb, eqb-true, and-parts, and-from}
 use Rattle.splits.specs.Splits.{Within}
 use Rattle.splits.specs.Blocks.{cover, owner}
 use Rattle.splits.proofs.Blocks.{covers}
@@ -14,9 +19,9 @@ use Rattle.overlays.specs.Turns.{turned, source-cover}
 use Rattle.overlays.specs.Overlays.{Overlay, Holds, Joined, down, across, cells, top, bottom, left, right, area, target-block, source-block, role, sender}
 use Rattle.overlays.specs.Packages.{sum-below, counts, elements}
 use Rattle.overlays.specs.Laws.{part, By-cells, Adds-up}
-use Rattle.overlays.proofs.Cells.{row-lines, column-lines, row-at, column-at, cell-at, same-target, same-source, turned-below}
-use Rattle.overlays.proofs.Rising.{span-of}
-use Rattle.overlays.proofs.Sums.{sum-same, sum-constant, sum-times, sum-swap, sum-rows, sum-point, sum-spans}
+use Rattle.overlays.proofs.Cells.{row-lines, column-lines, row-at, column-at, cell-at, same-target, same-source, turned-below, role-below}
+use Rattle.overlays.proofs.Rising.{span-of, same-bool}
+use Rattle.overlays.proofs.Sums.{sum-same, sum-constant, sum-times, sum-swap, sum-rows, sum-point, sum-spans, sum-rises, sum-below-sum}
 
 -- a function of an element that does not change within a cell is summed cell by cell
 module _ (n rows columns : ℕ) (o : Overlay) (j : Joined n rows columns o) (f : ℕ → ℕ → ℕ) (same : (k r c : ℕ) → Holds o k r c → f r c ≡ f (top o k) (left o k)) where
@@ -127,3 +132,60 @@ adds-up n rows columns o j =
     ∙ (sum-same rows (λ r. sum-below columns (λ c. sum-below n (λ p. sum-below n (λ q. g p q r c)))) (λ r. sum-below columns (λ c. 1))
     (λ r h. sum-same columns (λ c. sum-below n (λ p. sum-below n (λ q. g p q r c))) (λ c. 1) (λ c k. owners r c h k))
     ∙ square rows columns))
+
+-- a table with an entry for each sender and role, sixteen to a sender
+abbrev pub slot : Overlay → ℕ → ℕ
+slot o k = sender o k * 16 + role o k
+
+abbrev pub slotted : Overlay → ℕ → ℕ → ℕ
+slotted o p k = cond (eqb (slot o k) p) (area o k) 0
+
+part-of-area : (t : Bool) (a : ℕ) → cond t a 0 ≤ a
+part-of-area true a = omega arith
+part-of-area false a = omega arith
+
+-- what an entry has with one more cell is not above the matrix's elements
+pub slot-few : (n rows columns : ℕ) (o : Overlay) → Joined n rows columns o → (k : ℕ) → k < cells o → sum-below k (slotted o (slot o k)) + area o k ≤ rows * columns
+slot-few n rows columns o j k h =
+    let f : ℕ → ℕ = λ m. area o m in
+    let x : sum-below k (slotted o (slot o k)) ≤ sum-below k f = sum-below-sum k (slotted o (slot o k)) f (λ m l. part-of-area (eqb (slot o m) (slot o k)) (area o m)) in
+    let y : sum-below (suc k) f ≤ sum-below (cells o) f = sum-rises f (suc k) (cells o) (omega arith) in
+    omega (arith, x, y, areas n rows columns o j)
+
+pub slot-more : (o : Overlay) (k : ℕ) (ts : List ℕ) (v : ℕ) → slot o k < length ts → v ≡ getD ts (slot o k) 0 + area o k
+    → ((p : ℕ) → p < length ts → getD ts p 0 ≡ sum-below k (slotted o p))
+    → (p : ℕ) → p < length ts → getD (set ts (slot o k) v) p 0 ≡ sum-below (k + 1) (slotted o p)
+slot-more o k ts v l e all p h =
+    let s : sum-below (k + 1) (slotted o p) ≡ sum-below k (slotted o p) + slotted o p k = ap (λ x. sum-below x (slotted o p)) (add-one k) in
+    elim (cases-eq p (slot o k)) [
+      | inl same ↦
+          (let x : getD (set ts (slot o k) v) p 0 ≡ v = subst (λ z. getD (set ts (slot o k) v) z 0 ≡ v) (sym same) (getD-set-same ts (slot o k) v 0 l) in
+          let y : slotted o p k ≡ area o k = cond-true (eqb (slot o k) p) (area o k) 0 (eq-eqb (slot o k) p (sym same)) in
+          let z : getD ts (slot o k) 0 ≡ sum-below k (slotted o p) = ap (λ q. getD ts q 0) (sym same) ∙ all p h in
+          omega (arith, x, y, z, s, e))
+      | inr other ↦
+          (let y : slotted o p k ≡ 0 = cond-false (eqb (slot o k) p) (area o k) 0 (ne-eqb (slot o k) p (λ q. other (sym q))) in
+          let x = getD-set-other ts (slot o k) p v 0 other in
+          omega (arith, x, y, all p h, s))
+    ]
+
+-- with all cells, each entry is a package
+pub slot-all : (n rows columns : ℕ) (o : Overlay) → Joined n rows columns o → n ≤ 16 → (p : ℕ)
+    → sum-below (cells o) (slotted o p) ≡ elements (o .operation) (o .target) (o .source) rows columns (p / 16) (p % 16)
+slot-all n rows columns o j few p =
+    sum-same (cells o) (slotted o p) (part o (p / 16) (p % 16))
+    (λ k h.
+        (let r : role o k < 16 = omega (arith, role-below n rows columns o j k h, few) in
+        ap (λ t. cond t (area o k) 0)
+        (same-bool (eqb (slot o k) p) (eqb (sender o k) (p / 16) && eqb (role o k) (p % 16))
+        (λ t.
+            (let e : slot o k ≡ p = eqb-true (slot o k) p t in
+            and-from (eqb (sender o k) (p / 16)) (eqb (role o k) (p % 16))
+            (eq-eqb (sender o k) (p / 16) (sym (div-mul-add (sender o k) 16 (role o k) r) ∙ ap (λ x. x / 16) e))
+            (eq-eqb (role o k) (p % 16) (sym (mod-mul-add (sender o k) 16 (role o k) r) ∙ ap (λ x. x % 16) e))))
+        (λ t.
+            (let q = and-parts (eqb (sender o k) (p / 16)) (eqb (role o k) (p % 16)) t in
+            let x : sender o k ≡ p / 16 = eqb-true (sender o k) (p / 16) (q .0) in
+            let y : role o k ≡ p % 16 = eqb-true (role o k) (p % 16) (q .1) in
+            eq-eqb (slot o k) p (ap (λ z. z * 16 + role o k) x ∙ (ap (λ z. p / 16 * 16 + z) y ∙ div-add-mod' p 16)))))))
+    ∙ sym (by-cells n rows columns o j (p / 16) (p % 16))

@@ -32,7 +32,7 @@ among-from v [] k h e = absurd (omega arith)
 among-from v (x ∷ xs) zero h e = or-left (eqb v x) (among v xs) (eq-eqb v x (sym e))
 among-from v (x ∷ xs) (suc k) h e = or-right (eqb v x) (among v xs) (among-from v xs k (omega arith) e)
 
-same-bool : (a b : Bool) → (a ≡ true → b ≡ true) → (b ≡ true → a ≡ true) → a ≡ b
+pub same-bool : (a b : Bool) → (a ≡ true → b ≡ true) → (b ≡ true → a ≡ true) → a ≡ b
 same-bool true b f g = sym (f refl)
 same-bool false true f g = g refl
 same-bool false false f g = refl
