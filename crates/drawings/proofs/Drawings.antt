@@ -3,13 +3,19 @@ use mathlib.Core.Path.{_≡_, refl, sym, ap, subst, _∙_}
 use Prim.Native.Nat.{ℕ, _+_, _-_, _*_, _/_, _%_, _≤_, _<_}
 use native.Mathlib.Nat.{mul-le-mul, mul-comm}
 use native.Mathlib.Omega.{arith}
+use lib.Dec.{ltb}
 use lib.ListN.{length, getD, take}
-use Rattle.std.proofs.shelf.Bits.{mul-add-lt, div-mul-add, mod-mul-add}
+use Rattle.std.specs.declared.option.Option.the-variants.{None, Some}
+use Rattle.std.proofs.shelf.Bits.{mul-add-lt, div-mul-add, mod-mul-add, div-below, mod-below, div-add-mod'}
+use Rattle.std.proofs.shelf.Tests.{cond-true, lt-ltb}
 use Rattle.std.proofs.shelf.Lists.{length-take-le, getD-take}
 use Rattle.drawings.specs.declared.drawing.Drawing.{Drawing}
 use Rattle.drawings.specs.declared.lines.Lines.{Lines}
 use Rattle.drawings.specs.Parts.{Ruled, Drawable, elements-of, used, over, source-rows, source-columns}
-use Rattle.drawings.specs.Drawings.{overlay-of, cells, Laws-of}
+use Rattle.drawings.specs.Drawings.{overlay-of, cells, cell-top, cell-left, package-of, Laws-of}
+use Rattle.drawings.specs.Asking.{IsCell, IsCover, cell-refusal}
+use Rattle.drawings.specs.declared.cell.Cell.{Cell}
+use Rattle.faults.specs.declared.cause.Cause.the-variants.{Beyond}
 use Rattle.layouts.specs.declared.layout.Layout.{Layout}
 use Rattle.layouts.specs.Layouts.{grid-of, row-cuts, column-cuts, blocks-of}
 use Rattle.layouts.proofs.Layouts.{sound, count as blocks-count, few as blocks-few}
@@ -20,7 +26,7 @@ use Rattle.overlays.specs.Overlays.{Joined, across, down, cells as cells-over, 
 use Rattle.overlays.specs.Packages.{sum-below}
 use Rattle.overlays.specs.Turns.{turned, source-cover}
 use Rattle.overlays.proofs.Cells.{tiles, in-matrix, lies, holds-first, tall, wide, role-below, sender-below}
-use Rattle.overlays.proofs.Packages.{by-cells, adds-up, slot, slotted, slot-few, slot-all}
+use Rattle.overlays.proofs.Packages.{by-cells, adds-up, slot, slotted, slot-few, slot-all, elements-few}
 use Rattle.splits.specs.Blocks.{Grid, Sound, column-blocks, cover}
 use Rattle.splits.specs.Splits.{covering}
 
@@ -179,3 +185,63 @@ laws d =
       by-cells = by-cells n h w o j;
       adds-up = adds-up n h w o j;
     }
+
+-- the cell of a number, by its row and column of cells
+module _ (d : Drawing) (k : ℕ) (h : k < cells d) where
+  below : k < d .«row_lines» .spans * d .«column_lines» .spans
+  below = omega (arith, h, count (d .operation) (d .target) (d .source) (d .«row_lines») (d .«column_lines») (drawable d))
+
+  pub row-in : k / d .«column_lines» .spans < d .«row_lines» .spans
+  row-in = div-below k (d .«column_lines» .spans) (d .«row_lines» .spans) (omega (arith, d .«column_counted» .0)) below
+
+  pub column-in : k % d .«column_lines» .spans < d .«column_lines» .spans
+  column-in = mod-below k (d .«column_lines» .spans) (omega (arith, d .«column_counted» .0))
+
+  pub same-cell : k / d .«column_lines» .spans * d .«column_lines» .spans + k % d .«column_lines» .spans ≡ k
+  same-cell = div-add-mod' k (d .«column_lines» .spans)
+
+  pub asked-cell : cell-refusal d k ≡ None
+  asked-cell = cond-true (ltb k (cells d)) None (Some (Beyond 0)) (lt-ltb k (cells d) h)
+
+  pub is-cover : (t s : ℕ) → t ≡ target-block (overlay-of d) (k / d .«column_lines» .spans * d .«column_lines» .spans + k % d .«column_lines» .spans)
+      → s ≡ source-block (overlay-of d) (k / d .«column_lines» .spans * d .«column_lines» .spans + k % d .«column_lines» .spans) → IsCover d k t s
+  is-cover t s e f =
+      record { target = e ∙ ap (target-block (overlay-of d)) same-cell; source = f ∙ ap (source-block (overlay-of d)) same-cell; lies = λ r c v. laws d .lies k r c v }
+
+  pub tall-in : getD (d .«row_lines» .cuts) (k / d .«column_lines» .spans) 0 < getD (d .«row_lines» .cuts) (k / d .«column_lines» .spans + 1) 0
+  tall-in = tall-at (d .operation) (d .target) (d .source) (d .«row_lines») (d .«column_lines») (drawable d) (k / d .«column_lines» .spans) (k % d .«column_lines» .spans) row-in column-in
+
+  pub wide-in : getD (d .«column_lines» .cuts) (k % d .«column_lines» .spans) 0 < getD (d .«column_lines» .cuts) (k % d .«column_lines» .spans + 1) 0
+  wide-in = wide-at (d .operation) (d .target) (d .source) (d .«row_lines») (d .«column_lines») (drawable d) (k / d .«column_lines» .spans) (k % d .«column_lines» .spans) row-in column-in
+
+  pub is-cell : (v : Cell) → v .top ≡ getD (d .«row_lines» .cuts) (k / d .«column_lines» .spans) 0 → v .left ≡ getD (d .«column_lines» .cuts) (k % d .«column_lines» .spans) 0
+      → v .height ≡ getD (d .«row_lines» .cuts) (k / d .«column_lines» .spans + 1) 0 - getD (d .«row_lines» .cuts) (k / d .«column_lines» .spans) 0
+      → v .width ≡ getD (d .«column_lines» .cuts) (k % d .«column_lines» .spans + 1) 0 - getD (d .«column_lines» .cuts) (k % d .«column_lines» .spans) 0
+      → v .role ≡ role (overlay-of d) (k / d .«column_lines» .spans * d .«column_lines» .spans + k % d .«column_lines» .spans)
+      → v .sender ≡ sender (overlay-of d) (k / d .«column_lines» .spans * d .«column_lines» .spans + k % d .«column_lines» .spans)
+      → IsCell d k v
+  is-cell v et el eh ew er es =
+      let i = k / d .«column_lines» .spans in
+      let j = k % d .«column_lines» .spans in
+      let t = top-at (d .operation) (d .target) (d .source) (d .«row_lines») (d .«column_lines») (drawable d) i j row-in column-in in
+      let b = bottom-at (d .operation) (d .target) (d .source) (d .«row_lines») (d .«column_lines») (drawable d) i j row-in column-in in
+      let l = left-at (d .operation) (d .target) (d .source) (d .«row_lines») (d .«column_lines») (drawable d) i j row-in column-in in
+      let r = right-at (d .operation) (d .target) (d .source) (d .«row_lines») (d .«column_lines») (drawable d) i j row-in column-in in
+      let t′ : v .top ≡ cell-top d k = et ∙ (sym t ∙ ap (top (overlay-of d)) same-cell) in
+      let l′ : v .left ≡ cell-left d k = el ∙ (sym l ∙ ap (left (overlay-of d)) same-cell) in
+      record {
+        top = t′;
+        left = l′;
+        height = omega (arith, eh, et, t′, sym b ∙ ap (bottom (overlay-of d)) same-cell);
+        width = omega (arith, ew, el, l′, sym r ∙ ap (right (overlay-of d)) same-cell);
+        role = er ∙ ap (role (overlay-of d)) same-cell;
+        sender = es ∙ ap (sender (overlay-of d)) same-cell;
+      }
+
+pub package-most : (d : Drawing) (i j : ℕ) → package-of d i j ≤ 1048576
+package-most d i j =
+    omega (
+      arith,
+      elements-few (d .operation) (grid-of (d .target)) (grid-of (d .source)) (d .target .rows) (d .target .columns) i j,
+      mul-le-mul (d .target .tall .1) (d .target .wide .1),
+    )

@@ -6,8 +6,8 @@ ghost use Rattle.drawings.specs.Parts.{Both, Counted, Fits, Named, Rising, Wit
 ghost use Rattle.layouts.specs.Layouts.{column-cuts, row-cuts};
 
 pub mod ask;
-pub mod make;
 mod blocks;
+pub mod make;
 mod merge;
 mod packages;
 

@@ -87,10 +87,10 @@ module _ (size : ℕ) (xs : List ℕ) (c : Cuts size xs) where
           next = next;
           all =
               λ a l.
-                  (elim (cases-eq a i) [
-                    | inl q ↦ (n, omega arith, nz ∙ (sym e ∙ ap (λ x. getD xs x 0) (sym q)))
-                    | inr q ↦ old a (omega (arith, l, q))
-                  ]);
+              (elim (cases-eq a i) [
+                | inl q ↦ (n, omega arith, nz ∙ (sym e ∙ ap (λ x. getD xs x 0) (sym q)))
+                | inr q ↦ old a (omega (arith, l, q))
+              ]);
           block = blocks i f (h, omega (arith, e), next);
         }
 
@@ -151,18 +151,18 @@ module _ (xs ys : List ℕ) (i j n v w i′ j′ : ℕ) (z z′ : ℕ → ℕ) (
         last = ap z′ g ∙ nz;
         rises =
             λ k l.
-                (elim (cases-eq (k + 1) n) [
-                  | inl q ↦
-                      (let p : n - 1 ≡ k = omega (arith, q) in
-                      omega (arith, sz k (omega (arith, q)), ap z′ q, nz, up, m .last, ap z p))
-                  | inr q ↦ omega (arith, sz k (omega (arith, q, l)), sz (k + 1) (omega (arith, q, l)), m .rises k (omega (arith, q, l)))
-                ]);
+            (elim (cases-eq (k + 1) n) [
+              | inl q ↦
+                  (let p : n - 1 ≡ k = omega (arith, q) in
+                  omega (arith, sz k (omega (arith, q)), ap z′ q, nz, up, m .last, ap z p))
+              | inr q ↦ omega (arith, sz k (omega (arith, q, l)), sz (k + 1) (omega (arith, q, l)), m .rises k (omega (arith, q, l)))
+            ]);
         each =
             λ k l.
-                (elim (cases-eq k n) [
-                  | inl q ↦ subst (λ x. Among xs (z′ x) ⊎ Among ys (z′ x)) (sym q) (subst (λ y. Among xs y ⊎ Among ys y) (sym nz) from)
-                  | inr q ↦ (let l′ : k < n = omega (arith, q, l) in subst (λ y. Among xs y ⊎ Among ys y) (sym (sz k l′)) (m .each k l′))
-                ]);
+            (elim (cases-eq k n) [
+              | inl q ↦ subst (λ x. Among xs (z′ x) ⊎ Among ys (z′ x)) (sym q) (subst (λ y. Among xs y ⊎ Among ys y) (sym nz) from)
+              | inr q ↦ (let l′ : k < n = omega (arith, q, l) in subst (λ y. Among xs y ⊎ Among ys y) (sym (sz k l′)) (m .each k l′))
+            ]);
       }
 
 -- one more line in the tables: the lower of the next splits
@@ -260,18 +260,18 @@ module _ (size : ℕ) (xs ys zs : List ℕ) (c : Cuts size xs) (d : Cuts size ys
   merge-all =
       union-of size xs ys zs merged-lines (contains xs i s c a) (contains ys j t d b)
       (λ x p.
-          (let e : z (p .0) ≡ x = sym (held (p .0) (omega (arith, p .1, len))) ∙ p .2 in
-          subst (λ y. Among xs y ⊎ Among ys y) e (m .each (p .0) (omega (arith, p .1, len)))))
+      (let e : z (p .0) ≡ x = sym (held (p .0) (omega (arith, p .1, len))) ∙ p .2 in
+      subst (λ y. Among xs y ⊎ Among ys y) e (m .each (p .0) (omega (arith, p .1, len)))))
 
   -- a line that is not the last begins in the block that covers it
   pub blocks-all : (us : List ℕ) (e : ℕ) (u : ℕ → ℕ) → Cuts size us → Side us e n v z u → (k : ℕ) → k < n - 1 → u k ≡ covering us (z k)
   blocks-all us e u q f k h =
       let p = f .block k (omega arith) in
       let under : z k < size =
-        omega (arith, rises-past size zs merged-lines k (n - 1) h (omega (arith, len, two)), held k (omega arith), held (n - 1) (omega (arith, two)), m .last, ends) in
+      omega (arith, rises-past size zs merged-lines k (n - 1) h (omega (arith, len, two)), held k (omega arith), held (n - 1) (omega (arith, two)), m .last, ends) in
       let one : u k + 1 < length us =
-        elim (cases-eq (u k + 1) (length us)) [
-          | inl r ↦ (let g : length us - 1 ≡ u k = omega (arith, r) in absurd (omega (arith, ap (λ x. getD us x 0) g, q .last, p .1, under)))
-          | inr r ↦ omega (arith, r, p .0)
-        ] in
+      elim (cases-eq (u k + 1) (length us)) [
+        | inl r ↦ (let g : length us - 1 ≡ u k = omega (arith, r) in absurd (omega (arith, ap (λ x. getD us x 0) g, q .last, p .1, under)))
+        | inr r ↦ omega (arith, r, p .0)
+      ] in
       covered size us (z k) q under .1 (u k) (record { one = omega (arith, one); from = p .1; to = p .2 one })

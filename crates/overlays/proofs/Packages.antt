@@ -13,8 +13,9 @@ use Rattle.std.proofs.shelf.Bits.{div-mul-add, mod-mul-add, div-add-mod'}
 use Rattle.std.proofs.shelf.Lists.{getD-set-same, getD-set-other}
 use Rattle.std.proofs.shelf.Tests.{cases-eq, cond-true, cond-false, eq-eqb, ne-eqb, eqb-true, and-parts, and-from}
 use Rattle.splits.specs.Splits.{Within}
-use Rattle.splits.specs.Blocks.{cover, owner}
+use Rattle.splits.specs.Blocks.{Grid, cover, owner}
 use Rattle.splits.proofs.Blocks.{covers}
+use Rattle.overlays.specs.declared.operation.Operation.{Operation}
 use Rattle.overlays.specs.Turns.{turned, source-cover}
 use Rattle.overlays.specs.Overlays.{Overlay, Holds, Joined, down, across, cells, top, bottom, left, right, area, target-block, source-block, role, sender}
 use Rattle.overlays.specs.Packages.{sum-below, counts, elements}
@@ -52,8 +53,8 @@ module _ (n rows columns : ℕ) (o : Overlay) (j : Joined n rows columns o) (f :
   level a r w =
       sum-same columns (λ c. f r c) (λ c. f (getD (o .row-lines) a 0) c)
       (λ c h.
-          (let s = span-of columns (o .column-lines) (column-lines n rows columns o j) c h in
-          corner a (s .0) r c w (s .1) ∙ sym (corner a (s .0) (getD (o .row-lines) a 0) c (first-row a (w .one)) (s .1))))
+      (let s = span-of columns (o .column-lines) (column-lines n rows columns o j) c h in
+      corner a (s .0) r c w (s .1) ∙ sym (corner a (s .0) (getD (o .row-lines) a 0) c (first-row a (w .one)) (s .1))))
 
   in-row : (a : ℕ) → a < down o
       → (getD (o .row-lines) (a + 1) 0 - getD (o .row-lines) a 0) * sum-below columns (λ c. f (getD (o .row-lines) a 0) c)
@@ -65,9 +66,9 @@ module _ (n rows columns : ℕ) (o : Overlay) (j : Joined n rows columns o) (f :
       ∙ (sum-times (across o) t g
       ∙ sum-same (across o) (λ b. t * g b) (λ b. area o (a * across o + b) * f (top o (a * across o + b)) (left o (a * across o + b)))
       (λ b l.
-          (let F : ℕ → ℕ → ℕ = λ x y. (getD (o .row-lines) (x + 1) 0 - getD (o .row-lines) x 0) * (getD (o .column-lines) (y + 1) 0 - getD (o .column-lines) y 0) * f (getD (o .row-lines) x 0) (getD (o .column-lines) y 0) in
-          sym (mul-assoc t (getD (o .column-lines) (b + 1) 0 - getD (o .column-lines) b 0) (f (getD (o .row-lines) a 0) (getD (o .column-lines) b 0)))
-          ∙ (ap (λ x. F x b) (sym (row-at n rows columns o j a b l)) ∙ ap (λ y. F ((a * across o + b) / across o) y) (sym (column-at n rows columns o j a b l))))))
+      (let F : ℕ → ℕ → ℕ = λ x y. (getD (o .row-lines) (x + 1) 0 - getD (o .row-lines) x 0) * (getD (o .column-lines) (y + 1) 0 - getD (o .column-lines) y 0) * f (getD (o .row-lines) x 0) (getD (o .column-lines) y 0) in
+      sym (mul-assoc t (getD (o .column-lines) (b + 1) 0 - getD (o .column-lines) b 0) (f (getD (o .row-lines) a 0) (getD (o .column-lines) b 0)))
+      ∙ (ap (λ x. F x b) (sym (row-at n rows columns o j a b l)) ∙ ap (λ y. F ((a * across o + b) / across o) y) (sym (column-at n rows columns o j a b l))))))
 
   pub sum-cells : sum-below rows (λ r. sum-below columns (λ c. f r c)) ≡ sum-below (cells o) (λ k. area o k * f (top o k) (left o k))
   sum-cells =
@@ -87,9 +88,9 @@ pub by-cells : By-cells
 by-cells n rows columns o j p q =
     let f : ℕ → ℕ → ℕ = counts (o .operation) (o .target) (o .source) p q in
     let same : (k r c : ℕ) → Holds o k r c → f r c ≡ f (top o k) (left o k) =
-      λ k r c h.
-          (ap (λ x. cond (eqb (owner (o .source) x) p && eqb (owner (o .target) (cover (o .target) r c)) q) 1 0) (same-source n rows columns o j k r c h)
-          ∙ ap (λ x. cond (eqb (owner (o .source) (source-block o k)) p && eqb (owner (o .target) x) q) 1 0) (same-target n rows columns o j k r c h)) in
+    λ k r c h.
+    (ap (λ x. cond (eqb (owner (o .source) x) p && eqb (owner (o .target) (cover (o .target) r c)) q) 1 0) (same-source n rows columns o j k r c h)
+    ∙ ap (λ x. cond (eqb (owner (o .source) (source-block o k)) p && eqb (owner (o .target) x) q) 1 0) (same-target n rows columns o j k r c h)) in
     sum-cells n rows columns o j f same
     ∙ sum-same (cells o) (λ k. area o k * f (top o k) (left o k)) (part o p q) (λ k h. all-or-none (eqb (sender o k) p && eqb (role o k) q) (area o k))
 
@@ -120,12 +121,12 @@ pub adds-up : Adds-up
 adds-up n rows columns o j =
     let g : ℕ → ℕ → ℕ → ℕ → ℕ = λ p q r c. counts (o .operation) (o .target) (o .source) p q r c in
     let owners : (r c : ℕ) → r < rows → c < columns → sum-below n (λ p. sum-below n (λ q. g p q r c)) ≡ 1 =
-      λ r c h k.
-          one-package n (owner (o .source) (source-cover (o .operation) (o .source) r c)) (owner (o .target) (cover (o .target) r c))
-          (j .source .owned .below (source-cover (o .operation) (o .source) r c)
-          (covers n (turned (o .operation) rows columns) (turned (o .operation) columns rows) (o .source) (j .source) (turned (o .operation) r c) (turned (o .operation) c r)
-          (turned-below (o .operation) r c rows columns h k) (turned-below (o .operation) c r columns rows k h) .one))
-          (j .target .owned .below (cover (o .target) r c) (covers n rows columns (o .target) (j .target) r c h k .one)) in
+    λ r c h k.
+    one-package n (owner (o .source) (source-cover (o .operation) (o .source) r c)) (owner (o .target) (cover (o .target) r c))
+    (j .source .owned .below (source-cover (o .operation) (o .source) r c)
+    (covers n (turned (o .operation) rows columns) (turned (o .operation) columns rows) (o .source) (j .source) (turned (o .operation) r c) (turned (o .operation) c r)
+    (turned-below (o .operation) r c rows columns h k) (turned-below (o .operation) c r columns rows k h) .one))
+    (j .target .owned .below (cover (o .target) r c) (covers n rows columns (o .target) (j .target) r c h k .one)) in
     sum-same n (λ p. sum-below n (λ q. sum-below rows (λ r. sum-below columns (λ c. g p q r c)))) (λ p. sum-below rows (λ r. sum-below columns (λ c. sum-below n (λ q. g p q r c))))
     (λ p h. inwards n rows columns (λ q r c. g p q r c))
     ∙ (inwards n rows columns (λ p r c. sum-below n (λ q. g p q r c))
@@ -175,17 +176,27 @@ pub slot-all : (n rows columns : ℕ) (o : Overlay) → Joined n rows columns o 
 slot-all n rows columns o j few p =
     sum-same (cells o) (slotted o p) (part o (p / 16) (p % 16))
     (λ k h.
-        (let r : role o k < 16 = omega (arith, role-below n rows columns o j k h, few) in
-        ap (λ t. cond t (area o k) 0)
-        (same-bool (eqb (slot o k) p) (eqb (sender o k) (p / 16) && eqb (role o k) (p % 16))
-        (λ t.
-            (let e : slot o k ≡ p = eqb-true (slot o k) p t in
-            and-from (eqb (sender o k) (p / 16)) (eqb (role o k) (p % 16))
-            (eq-eqb (sender o k) (p / 16) (sym (div-mul-add (sender o k) 16 (role o k) r) ∙ ap (λ x. x / 16) e))
-            (eq-eqb (role o k) (p % 16) (sym (mod-mul-add (sender o k) 16 (role o k) r) ∙ ap (λ x. x % 16) e))))
-        (λ t.
-            (let q = and-parts (eqb (sender o k) (p / 16)) (eqb (role o k) (p % 16)) t in
-            let x : sender o k ≡ p / 16 = eqb-true (sender o k) (p / 16) (q .0) in
-            let y : role o k ≡ p % 16 = eqb-true (role o k) (p % 16) (q .1) in
-            eq-eqb (slot o k) p (ap (λ z. z * 16 + role o k) x ∙ (ap (λ z. p / 16 * 16 + z) y ∙ div-add-mod' p 16)))))))
+    (let r : role o k < 16 = omega (arith, role-below n rows columns o j k h, few) in
+    ap (λ t. cond t (area o k) 0)
+    (same-bool (eqb (slot o k) p) (eqb (sender o k) (p / 16) && eqb (role o k) (p % 16))
+    (λ t.
+    (let e : slot o k ≡ p = eqb-true (slot o k) p t in
+    and-from (eqb (sender o k) (p / 16)) (eqb (role o k) (p % 16))
+    (eq-eqb (sender o k) (p / 16) (sym (div-mul-add (sender o k) 16 (role o k) r) ∙ ap (λ x. x / 16) e))
+    (eq-eqb (role o k) (p % 16) (sym (mod-mul-add (sender o k) 16 (role o k) r) ∙ ap (λ x. x % 16) e))))
+    (λ t.
+    (let q = and-parts (eqb (sender o k) (p / 16)) (eqb (role o k) (p % 16)) t in
+    let x : sender o k ≡ p / 16 = eqb-true (sender o k) (p / 16) (q .0) in
+    let y : role o k ≡ p % 16 = eqb-true (role o k) (p % 16) (q .1) in
+    eq-eqb (slot o k) p (ap (λ z. z * 16 + role o k) x ∙ (ap (λ z. p / 16 * 16 + z) y ∙ div-add-mod' p 16)))))))
     ∙ sym (by-cells n rows columns o j (p / 16) (p % 16))
+
+pub elements-few : (op : Operation) (a b : Grid) (rows columns i j : ℕ) → elements op a b rows columns i j ≤ rows * columns
+elements-few op a b rows columns i j =
+    let one : (r c : ℕ) → counts op a b i j r c ≤ 1 = λ r c. part-of-area (eqb (owner b (source-cover op b r c)) i && eqb (owner a (cover a r c)) j) 1 in
+    omega (
+      arith,
+      sum-below-sum rows (λ r. sum-below columns (λ c. counts op a b i j r c)) (λ r. sum-below columns (λ c. 1))
+          (λ r h. sum-below-sum columns (λ c. counts op a b i j r c) (λ c. 1) (λ c k. one r c)),
+      square rows columns,
+    )

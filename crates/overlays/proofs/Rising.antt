@@ -59,17 +59,17 @@ union-of size xs ys zs l f g h =
       lines = l;
       entries =
           λ v.
-              same-bool (among v zs) (among v xs || among v ys)
-              (λ t.
-                  (elim (h v (among-true v zs t)) [
-                    | inl a ↦ or-left (among v xs) (among v ys) (among-from v xs (a .0) (a .1) (a .2))
-                    | inr a ↦ or-right (among v xs) (among v ys) (among-from v ys (a .0) (a .1) (a .2))
-                  ]))
-              (λ t.
-                  (elim (or-cases (among v xs) (among v ys) t) [
-                    | inl a ↦ put v (f v (among-true v xs a))
-                    | inr a ↦ put v (g v (among-true v ys a))
-                  ]));
+          same-bool (among v zs) (among v xs || among v ys)
+          (λ t.
+          (elim (h v (among-true v zs t)) [
+            | inl a ↦ or-left (among v xs) (among v ys) (among-from v xs (a .0) (a .1) (a .2))
+            | inr a ↦ or-right (among v xs) (among v ys) (among-from v ys (a .0) (a .1) (a .2))
+          ]))
+          (λ t.
+          (elim (or-cases (among v xs) (among v ys) t) [
+            | inl a ↦ put v (f v (among-true v xs a))
+            | inr a ↦ put v (g v (among-true v ys a))
+          ]));
     }
 
 pub cuts-lines : (size : ℕ) (xs : List ℕ) → Cuts size xs → Lines size xs

@@ -174,11 +174,9 @@ impl Drawing {
         ensures cases { λ r. ⌜ Answers Layer.Drawings Call.Make (make-refusal letter (now (target .entry)) (now (source .entry)) «source_share» «target_share») r (λ d. Made letter (now (target .entry)) (now (source .entry)) «source_share» «target_share» d) (Unit {0}) ⌝ }
     {
         let Some(operation) = known_operation(letter) else {
-            return Err(refused(
-                Cause::Letter {
-                    code: letter as u32,
-                },
-            ));
+            return Err(refused(Cause::Letter {
+                code: letter as u32,
+            }));
         };
         if let Some(cause) = parts_cause(operation, target, source, source_share, target_share) {
             return Err(refused(cause));

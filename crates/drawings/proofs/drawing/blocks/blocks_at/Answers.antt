@@ -16,8 +16,8 @@ add-result-2 c =
     let y = getD (c .args .columns .now .source) (c .args .j) 0 in
     let n = column-blocks (grid-of (c .args .source .now)) in
     let e : c .turned-down .result * c .column-blocks-2 .result + c .turned-across .result ≡ turned op x y * n + turned op y x =
-      ap (λ z. z * c .column-blocks-2 .result + c .turned-across .result) (c .turned-down .ensures .value)
-      ∙ (ap (λ z. turned op x y * z + c .turned-across .result) (c .column-blocks-2 .ensures .value) ∙ ap (λ z. turned op x y * n + z) (c .turned-across .ensures .value)) in
+    ap (λ z. z * c .column-blocks-2 .result + c .turned-across .result) (c .turned-down .ensures .value)
+    ∙ (ap (λ z. turned op x y * z + c .turned-across .result) (c .column-blocks-2 .ensures .value) ∙ ap (λ z. turned op x y * n + z) (c .turned-across .ensures .value)) in
     omega (
       arith,
       e,
@@ -32,8 +32,8 @@ returns c =
     let y = getD (c .args .columns .now .source) (c .args .j) 0 in
     let n = column-blocks (grid-of (c .args .source .now)) in
     let e : c .turned-down .result * c .column-blocks-2 .result + c .turned-across .result ≡ turned op x y * n + turned op y x =
-      ap (λ z. z * c .column-blocks-2 .result + c .turned-across .result) (c .turned-down .ensures .value)
-      ∙ (ap (λ z. turned op x y * z + c .turned-across .result) (c .column-blocks-2 .ensures .value) ∙ ap (λ z. turned op x y * n + z) (c .turned-across .ensures .value)) in
+    ap (λ z. z * c .column-blocks-2 .result + c .turned-across .result) (c .turned-down .ensures .value)
+    ∙ (ap (λ z. turned op x y * z + c .turned-across .result) (c .column-blocks-2 .ensures .value) ∙ ap (λ z. turned op x y * n + z) (c .turned-across .ensures .value)) in
     record {
       target =
           ap (λ z. getD (c .args .rows .now .target) (c .args .i) 0 * z + getD (c .args .columns .now .target) (c .args .j) 0) (c .column-blocks .ensures .value)

@@ -28,9 +28,10 @@ returns c =
     let e = c .owner-at .ensures ∙ ap (owner-of s) (c .blocks-at-t .ensures .source) in
     let f = c .owner-at-2 .ensures ∙ ap (owner-of t) (c .blocks-at-t .ensures .target) in
     record {
-      bound =
-          (omega (arith, e, sender-few (c .args .operation) t s (c .args .rows .now) (c .args .columns .now) (c .pre .0) (c .args .i) (c .args .j) (c .pre .1 .0) (c .pre .1 .1)),
-          omega (arith, f, role-few (c .args .operation) t s (c .args .rows .now) (c .args .columns .now) (c .pre .0) (c .args .i) (c .args .j) (c .pre .1 .0) (c .pre .1 .1)));
+      bound = (
+        omega (arith, e, sender-few (c .args .operation) t s (c .args .rows .now) (c .args .columns .now) (c .pre .0) (c .args .i) (c .args .j) (c .pre .1 .0) (c .pre .1 .1)),
+        omega (arith, f, role-few (c .args .operation) t s (c .args .rows .now) (c .args .columns .now) (c .pre .0) (c .args .i) (c .args .j) (c .pre .1 .0) (c .pre .1 .1)),
+      );
       sender = e;
       role = f;
     }

@@ -50,7 +50,7 @@ add-packages c =
     let h = c .owners-at-sender .ensures in
     let q : c .owners-at-sender .result .0 * 16 + c .owners-at-sender .result .1 ≡ slot o k = omega (arith, h .sender, h .role) in
     let e : getD (c .loop-j .packages) (c .owners-at-sender .result .0 * 16 + c .owners-at-sender .result .1) 0 ≡ sum-below k (slotted o (slot o k)) =
-      ap (λ x. getD (c .loop-j .packages) x 0) q ∙ c .loop-j .inv .1 (slot o k) (omega (arith, q, h .bound)) in
+    ap (λ x. getD (c .loop-j .packages) x 0) q ∙ c .loop-j .inv .1 (slot o k) (omega (arith, q, h .bound)) in
     omega (
       arith,
       e,
@@ -75,8 +75,8 @@ loop-j-again c =
     let q : c .owners-at-sender .result .0 * 16 + c .owners-at-sender .result .1 ≡ slot o k = omega (arith, h .sender, h .role) in
     let v = getD ts (c .owners-at-sender .result .0 * 16 + c .owners-at-sender .result .1) 0 + (getD (rs .cuts) (i + 1) 0 - getD (rs .cuts) i 0) * (getD (cs .cuts) (j + 1) 0 - getD (cs .cuts) j 0) in
     let e : v ≡ getD ts (slot o k) 0 + area o k =
-      ap (λ x. getD ts x 0 + (getD (rs .cuts) (i + 1) 0 - getD (rs .cuts) i 0) * (getD (cs .cuts) (j + 1) 0 - getD (cs .cuts) j 0)) q
-      ∙ ap (λ x. getD ts (slot o k) 0 + x) (area-at op a b rs cs (c .pre) i j (c .loop-i-test .taken) (c .loop-j-test .taken)) in
+    ap (λ x. getD ts x 0 + (getD (rs .cuts) (i + 1) 0 - getD (rs .cuts) i 0) * (getD (cs .cuts) (j + 1) 0 - getD (cs .cuts) j 0)) q
+    ∙ ap (λ x. getD ts (slot o k) 0 + x) (area-at op a b rs cs (c .pre) i j (c .loop-i-test .taken) (c .loop-j-test .taken)) in
     let next : k + 1 ≡ i * cs .spans + (j + 1) = omega arith in (
       length-set ts (c .owners-at-sender .result .0 * 16 + c .owners-at-sender .result .1) v ∙ n,
       (λ p l.
@@ -95,7 +95,7 @@ returns c =
       len = c .loop-i .inv .0;
       items =
           λ p h.
-              c .loop-i .inv .1 p h
-              ∙ (ap (λ x. sum-below (x * cs .spans) (slotted o p)) e
-              ∙ package-all (c .args .operation) (c .args .target .now) (c .args .source .now) rs cs (c .pre) p);
+          c .loop-i .inv .1 p h
+          ∙ (ap (λ x. sum-below (x * cs .spans) (slotted o p)) e
+          ∙ package-all (c .args .operation) (c .args .target .now) (c .args .source .now) rs cs (c .pre) p);
     }
