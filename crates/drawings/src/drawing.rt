@@ -10,6 +10,7 @@ mod blocks;
 pub mod make;
 mod merge;
 mod packages;
+pub mod parts;
 
 use crate::lines::Lines;
 use layouts::Layout;

@@ -13,8 +13,6 @@ use faults::Call;
 use faults::Cause;
 use faults::Fault;
 use faults::Layer;
-use layouts::Layout;
-use overlays::Operation;
 
 // The fault of a question.
 fn refused(call: Call, cause: Cause) -> Fault
@@ -28,36 +26,6 @@ fn refused(call: Call, cause: Cause) -> Fault
 }
 
 impl Drawing {
-    pub fn operation(&self) -> Operation
-        ensures value { λ r. ⌜ r ≡ now (self .entry) .operation ⌝ }
-    {
-        self.operation
-    }
-
-    pub fn target(&self) -> &Layout
-        ensures value { λ r. ⌜ now r ≡ now (self .entry) .target ⌝ }
-    {
-        &self.target
-    }
-
-    pub fn source(&self) -> &Layout
-        ensures value { λ r. ⌜ now r ≡ now (self .entry) .source ⌝ }
-    {
-        &self.source
-    }
-
-    pub fn source_share(&self) -> usize
-        ensures value { λ r. ⌜ r ≡ now (self .entry) .«source_share» ⌝ }
-    {
-        self.source_share
-    }
-
-    pub fn target_share(&self) -> usize
-        ensures value { λ r. ⌜ r ≡ now (self .entry) .«target_share» ⌝ }
-    {
-        self.target_share
-    }
-
     // The number of cells, which are numbered row by row.
     pub fn cell_count(&self) -> usize
         ensures value { λ r. ⌜ r ≡ cells (now (self .entry)) ⌝ }

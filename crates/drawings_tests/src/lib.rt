@@ -1,0 +1,3 @@
+// Examples of drawings, with values from hand calculation.
+#[cfg(test)]
+mod tests;
