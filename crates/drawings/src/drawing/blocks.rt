@@ -9,7 +9,7 @@ use layouts::Layout;
 use overlays::Operation;
 
 // The blocks of the target and of the source that the cell in row `i` and column `j` of cells lies in.
-pub fn blocks_at(
+pub(crate) fn blocks_at(
     operation: Operation,
     target: &Layout,
     source: &Layout,
@@ -44,7 +44,7 @@ fn owner_at(layout: &Layout, block: usize) -> usize
 }
 
 // The sender and the role of the cell in row `i` and column `j` of cells.
-pub fn owners_at(
+pub(crate) fn owners_at(
     operation: Operation,
     target: &Layout,
     source: &Layout,

@@ -18,7 +18,7 @@ fn passed(splits: &[u16], i: usize, line: u16) -> usize
 }
 
 // The lines of a side of this size that the target and the source cut at these splits.
-pub fn merge(size: u16, target: &[u16], source: &[u16]) -> Lines
+pub(crate) fn merge(size: u16, target: &[u16], source: &[u16]) -> Lines
     requires { ⌜ Cuts size (now target) ⌝ }
     requires { ⌜ Cuts size (now source) ⌝ }
     ensures { λ r. ⌜ Ruled size (now (target .entry)) (now (source .entry)) r ⌝ }

@@ -9,7 +9,7 @@ use layouts::Layout;
 use overlays::Operation;
 
 // For each sender, sixteen numbers apart, and each role how many elements the sender sends for the role.
-pub fn tally(
+pub(crate) fn tally(
     operation: Operation,
     target: &Layout,
     source: &Layout,
