@@ -1,0 +1,3 @@
+// Tests of stepping through runs, on drawings made by hand.
+#[cfg(test)]
+mod tests;
