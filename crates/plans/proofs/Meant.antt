@@ -14,8 +14,8 @@ use Rattle.std.proofs.shelf.Tests.{both-ways, cases-bool, or-left, cond-true, a
 use Rattle.std.specs.Written.{decimal, signed}
 use Rattle.std.specs.declared.option.Option.{Option}
 use Rattle.std.specs.declared.option.Option.the-variants.{None, Some}
-use Rattle.plans.specs.Text.{text, spelled, dashed, meant, reads}
-use Rattle.plans.proofs.Fields.{reads-text}
+use Rattle.plans.specs.Text.{text, spelled, dashed, meant, reads, Reads, Reads-exactly}
+use Rattle.plans.proofs.Fields.{reads-found, reads-text}
 
 spelled-append : (xs ys : List ℕ) (acc : ℕ) → spelled acc (xs ++ ys) ≡ spelled (spelled acc xs) ys
 spelled-append [] ys acc = refl
@@ -72,3 +72,7 @@ reads-back w lo hi z small low high = sym (reads-text w lo hi (text w z) z (sym 
 
 pub same-number : (w : ℕ) (y z : ℤ) → natAbs y ≤ 2 ^ 62 → natAbs z ≤ 2 ^ 62 → text w y ≡ text w z → y ≡ z
 same-number w y z a b e = sym (meant-text w y a) ∙ ap meant e ∙ meant-text w z b
+
+pub reads-exactly : Reads-exactly
+reads-exactly w lo hi z bs small =
+    (λ e. reads-found w lo hi bs (Some z) (sym e), λ r. ap (reads w lo hi) (r .is) ∙ reads-back w lo hi z small (r .low) (r .high))

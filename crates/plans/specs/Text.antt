@@ -3,13 +3,14 @@
 --     text w z          the number z in a field of w columns: its digits without leading zeros, a minus right before them
 --     meant bs          the number that the minus signs and the digits of bs spell, whatever else stands there
 --     reads w lo hi bs  the number from lo to hi whose text in w columns is bs, if there is one
---     Reads-exactly     that reads finds such a number wherever there is one, and finds no other
+--     Reads w lo hi bs z    z is such a number
+--     Reads-exactly     reads finds such a number wherever there is one, and finds no other
 use mathlib.Core.Bool.{Bool, true, false, cond, _&&_, _||_}
 use mathlib.Core.List.{List, [], _∷_, _++_}
 use mathlib.Core.Path.{_≡_}
 use Prim.Native.Nat.{ℕ, _+_, _-_, _*_, _^_, _≤_}
 use lib.Dec.{leb, eqb}
-use lib.IntN.{ℤ, pos, negℤ}
+use lib.IntN.{ℤ, pos, negℤ, natAbs}
 use lib.ListN.{length, replicate}
 use lib.Signed.{leZ, _≤ℤ_}
 use Rattle.std.specs.Written.{signed}
@@ -47,3 +48,8 @@ pub record Reads (w : ℕ) (lo hi : ℤ) (bs : List ℕ) (z : ℤ) : Type 0 wher
   pub low : lo ≤ℤ z
   pub high : z ≤ℤ hi
   pub is : bs ≡ text w z
+
+abbrev pub Reads-exactly : Type 0
+Reads-exactly =
+    (w : ℕ) (lo hi z : ℤ) (bs : List ℕ) → natAbs z ≤ 2 ^ 62
+    → (reads w lo hi bs ≡ Some z → Reads w lo hi bs z) × (Reads w lo hi bs z → reads w lo hi bs ≡ Some z)

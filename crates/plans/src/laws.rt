@@ -6,14 +6,16 @@ ghost use Rattle.faults.specs.declared.fault.Call.{Call};
 ghost use Rattle.faults.specs.declared.fault.Layer.{Layer};
 ghost use Rattle.plans.specs.Laws.{Sheets-read-back, Sheets-are-one};
 ghost use Rattle.plans.specs.Sheet.{sheet-length, write-refusal, Written};
+ghost use Rattle.plans.specs.Text.{Reads-exactly};
 ghost use mathlib.Core.Bool.{true};
 use crate::plan::Plan;
 use faults::Fault;
 
-// Names the laws: the sheet of a legal plan is read, and a text is the sheet of one plan at most.
-// It answers true.
+// Names the laws: a field is read as a number exactly if it is that number's text, the sheet of a legal
+// plan is read, and a text is the sheet of one plan at most. It answers true.
 pub fn sheets_stand() -> bool
     ensures value { λ r. ⌜ r ≡ true ⌝ }
+    ensures numbers { λ _. ⌜ Reads-exactly ⌝ }
     ensures back { λ _. ⌜ Sheets-read-back ⌝ }
     ensures one { λ _. ⌜ Sheets-are-one ⌝ }
 {
