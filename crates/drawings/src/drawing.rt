@@ -7,6 +7,7 @@ pub mod ask;
 mod blocks;
 pub mod make;
 mod packages;
+pub mod parts;
 
 use drawing_parts::Lines;
 use layouts::Layout;

@@ -1,4 +1,5 @@
 -- When a question to a layout is refused, and what is answered otherwise. Assumes nothing.
+--     letter_of o          the letter of an order, R (code 82) or C (code 67)
 --     board_refusal l p    a board that is not below the number of boards
 --     element_refusal l r c    an element outside the matrix
 --     block_refusal l b    a block outside the layout
@@ -15,9 +16,15 @@ use Rattle.layout_parts.specs.declared.block.Block.{Block}
 use Rattle.layout_parts.specs.declared.block.Spot.{Spot}
 use Rattle.layouts.specs.declared.layout.Layout.{Layout}
 use Rattle.layouts.specs.Layouts.{grid_of, blocks_of, owner_of, cover_of, offset_of, place_of}
+use Rattle.splits.specs.declared.order.Order.{Order}
+use Rattle.splits.specs.declared.order.Order.TheVariants.{RowMajor, ColumnMajor}
 use Rattle.splits.specs.Blocks.{Covers, top, bottom, left, right, height, width}
 use Rattle.splits.specs.Laws.{Shared, Placed}
 use Rattle.splits.specs.Places.{start, row_step, column_step}
+
+abbrev pub letter_of : Order → ℕ
+letter_of RowMajor = 82
+letter_of ColumnMajor = 67
 
 abbrev pub board_refusal : Layout → ℕ → Option Cause
 board_refusal l p = cond (nat_lt p l.boards) None (Some (Board p))

@@ -9,7 +9,6 @@
 //        4 | 2 | 0 0 0 | 1 1 |
 use faults::{Call, Cause, Fault, Layer, Side};
 use layouts::{Block, Layout, Spot};
-use splits::Order;
 use std::test::Fail;
 
 fn example(letter: char) -> Result<Layout, Fault> {
@@ -35,12 +34,12 @@ fn cause_of(made: Result<Layout, Fault>) -> Option<Cause> {
 #[test]
 fn the_example_answers_its_parts(rt: HostRuntime) -> Result<(), Fail> {
     let layout = example('C')?;
-    assert_eq!(rt; layout.boards, 3);
-    assert_eq!(rt; layout.rows, 5);
-    assert_eq!(rt; layout.columns, 6);
-    assert!(rt; layout.order == Order::ColumnMajor);
-    assert_eq!(rt; layout.row_blocks, 2);
-    assert_eq!(rt; layout.column_blocks, 3);
+    assert_eq!(rt; layout.boards(), 3);
+    assert_eq!(rt; layout.rows(), 5);
+    assert_eq!(rt; layout.columns(), 6);
+    assert_eq!(rt; layout.letter(), 'C');
+    assert_eq!(rt; layout.row_blocks(), 2);
+    assert_eq!(rt; layout.column_blocks(), 3);
     assert_eq!(rt; layout.total(0)?, 15);
     assert_eq!(rt; layout.total(1)?, 12);
     assert_eq!(rt; layout.total(2)?, 3);
@@ -64,7 +63,7 @@ fn elements_lie_by_rows_or_by_columns_inside_a_block(rt: HostRuntime) -> Result<
     assert_eq!(rt; by_rows.cover(3, 5)?, 5);
     assert_eq!(rt; by_rows.place(16, 3, 5)?, 25);
     assert_eq!(rt;
-        by_rows.spot_in(5, 3, 5)?,
+        by_rows.spot(3, 5)?,
         Spot {
             owner: 1,
             offset: 9,

@@ -25,6 +25,18 @@ impl Plan {
         }
     }
 
+    pub fn boards(&self) -> usize
+        ensures { result ≡ self.now.boards }
+    {
+        self.boards
+    }
+
+    pub fn bill(&self) -> u64
+        ensures { result ≡ self.now.bill }
+    {
+        self.bill
+    }
+
     // The line of number `x`.
     pub fn line(&self, x: usize) -> Result<Line, Fault>
         ensures { Answers Layer.Plans Call.Ask (line_refusal self.now x) result (λ l. l ≡ line_of self.now x) (Unit {0}) }

@@ -31,8 +31,8 @@ fn written(rt: &impl Abort, boards: usize, bill: u64, line: Line, room: usize) -
 #[test]
 fn the_sample_names_two_boards(rt: HostRuntime) -> Result<(), Fail> {
     let plan = Plan::read(SAMPLE)?;
-    assert!(rt; plan.boards == 2);
-    assert!(rt; plan.bill == 20);
+    assert!(rt; plan.boards() == 2);
+    assert!(rt; plan.bill() == 20);
     assert_eq!(rt;
         plan.line(0)?,
         Line {

@@ -1,12 +1,14 @@
 // Questions about a layout and its blocks.
 ghost use Rattle.std.specs.Prelude.{◌≡◌, ◌*◌, ◌<◌, true};
 ghost use Rattle.faults.specs.Answers.{Answers};
-ghost use Rattle.layouts.specs.Asking.{IsBlock, IsCover, block_refusal, board_refusal, element_refusal};
-ghost use Rattle.layouts.specs.Layouts.{LawsOf, column_cuts, row_cuts, total_of};
+ghost use Rattle.layouts.specs.Asking.{IsBlock, IsCover, block_refusal, board_refusal, element_refusal, letter_of};
+ghost use Rattle.layouts.specs.Layouts.{LawsOf, column_cuts, grid_of, row_cuts, total_of};
+ghost use Rattle.splits.specs.Blocks.{column_blocks, row_blocks};
 
 use crate::layout::Layout;
 use faults::{Call, Cause, Fault, Layer};
 use layout_parts::Block;
+use splits::Order;
 use splits::cuts::covering_block;
 
 // The fault of a question.
@@ -39,6 +41,54 @@ pub(crate) fn block_at(layout: &Layout, number: usize) -> Block
 }
 
 impl Layout {
+    pub fn boards(&self) -> usize
+        ensures value { result ≡ self.now.boards }
+    {
+        self.boards
+    }
+
+    pub fn rows(&self) -> usize
+        ensures value { result ≡ self.now.rows }
+    {
+        self.rows
+    }
+
+    pub fn columns(&self) -> usize
+        ensures value { result ≡ self.now.columns }
+    {
+        self.columns
+    }
+
+    pub fn order(&self) -> Order
+        ensures value { result ≡ self.now.order }
+    {
+        self.order
+    }
+
+    // The letter of the order inside a block.
+    pub fn letter(&self) -> char
+        ensures value { result ≡ letter_of self.now.order }
+    {
+        match self.order {
+            Order::RowMajor => 'R',
+            Order::ColumnMajor => 'C',
+        }
+    }
+
+    // The number of blocks from top to bottom.
+    pub fn row_blocks(&self) -> usize
+        ensures value { result ≡ row_blocks (grid_of self.now) }
+    {
+        self.row_blocks
+    }
+
+    // The number of blocks from left to right.
+    pub fn column_blocks(&self) -> usize
+        ensures value { result ≡ column_blocks (grid_of self.now) }
+    {
+        self.column_blocks
+    }
+
     pub fn row_splits(&self) -> &[u16]
         ensures value { result.now ≡ row_cuts self.now }
     {

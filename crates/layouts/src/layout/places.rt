@@ -2,7 +2,7 @@
 ghost use Rattle.std.specs.Prelude.{◌≡◌, ◌+◌, ◌*◌, ◌<◌, ◌≤◌};
 ghost use Rattle.faults.specs.Answers.{Answers};
 ghost use Rattle.layouts.specs.Asking.{IsPlace, IsSpot, element_refusal, in_block_refusal};
-ghost use Rattle.layouts.specs.Layouts.{grid_of};
+ghost use Rattle.layouts.specs.Layouts.{cover_of, grid_of};
 ghost use Rattle.splits.specs.Blocks.{Covers};
 ghost use Rattle.splits.specs.Places.{line, pitch, spot};
 
@@ -52,12 +52,19 @@ impl Layout {
         }
     }
 
+    // Where an element of the matrix lies.
+    pub fn spot(&self, row: usize, column: usize) -> Result<Spot, Fault>
+        ensures cases { Answers Layer.Layouts Call.Ask (element_refusal self.now row column) result (λ v. IsSpot self.now (cover_of self.now row column) row column v) (Unit {0}) }
+    {
+        let number = self.cover(row, column)?;
+        Ok(spot_of(self, number, row, column))
+    }
+
     // The place of an element in a bank whose parts have `share` elements each, every owner having its own part.
     pub fn place(&self, share: u32, row: usize, column: usize) -> Result<usize, Fault>
         ensures cases { Answers Layer.Layouts Call.Ask (element_refusal self.now row column) result (λ v. IsPlace self.now share row column v) (Unit {0}) }
     {
-        let number = self.cover(row, column)?;
-        let spot = spot_of(self, number, row, column);
+        let spot = self.spot(row, column)?;
         Ok(spot.owner * share as usize + spot.offset)
     }
 }
