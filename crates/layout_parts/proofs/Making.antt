@@ -1,11 +1,10 @@
 -- What it says that a layout is not refused.
-use Rattle.std.proofs.Common.{◌≡◌, ℕ, ◌+◌, ◌-◌, ◌*◌, ◌<◌, ◌≤◌, Bool, true, false, cond, ◌&&◌, eqb, leb, List, [], ◌∷◌, length, take, is_some, Some, None, Option, sym, refl, ap, ◌∙◌, subst, inl, inr, mul-le-mul, arith}
+use Rattle.std.proofs.Common.{◌≡◌, ℕ, ◌+◌, ◌-◌, ◌*◌, ◌≤◌, cond, ◌&&◌, leb, List, [], ◌∷◌, length, take, is_some, Some, None, Option, sym, refl, ap, ◌∙◌, inl, inr, mul-le-mul, arith}
 use Rattle.std.proofs.lemmas.Bool.{cases_Bool, and_parts, leb-true}
 use Rattle.std.specs.Option.{option_map}
 use Rattle.faults.specs.Lists.{Rule, Legal, first_wrong}
 use Rattle.faults.specs.declared.cause.Cause.{Cause}
 use Rattle.faults.specs.declared.cause.Cause.TheVariants.{Board, Size, Splits, Owners}
-use Rattle.faults.specs.declared.cause.Side.{Side}
 use Rattle.faults.specs.declared.cause.Side.TheVariants.{Rows, Columns}
 use Rattle.splits.specs.declared.order.Order.{Order}
 use Rattle.splits.specs.Blocks.{Sound, grid}

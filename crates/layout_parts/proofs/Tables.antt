@@ -1,10 +1,10 @@
 -- What lawful lists say of their blocks.
-use Rattle.std.proofs.Common.{◌≡◌, ℕ, ◌+◌, ◌-◌, ◌*◌, ◌<◌, ◌≤◌, cond, eqb, List, length, get_or, set, replicate, sym, ap, ◌∙◌, subst, inl, inr, mul-le-mul, add-one, arith}
+use Rattle.std.proofs.Common.{◌≡◌, ℕ, ◌+◌, ◌-◌, ◌<◌, ◌≤◌, cond, eqb, List, length, get_or, set, replicate, sym, ap, ◌∙◌, subst, inl, inr, mul-le-mul, add-one, arith}
 use Rattle.std.proofs.lemmas.List.{get_or-set_same, get_or-set_other, get_or-replicate, get_or_past, length-replicate}
 use Rattle.std.proofs.lemmas.Bool.{cases_eq, cases_lt, cond-true, cond-false, eq-eqb, ne_eqb}
 use Rattle.splits.specs.declared.order.Order.{Order}
-use Rattle.splits.specs.Blocks.{Grid, Sound, blocks, column_blocks, row_of, column_of, top, bottom, left, right, height, width, grid, owner}
-use Rattle.splits.specs.Places.{room, start, held, total}
+use Rattle.splits.specs.Blocks.{Grid, blocks, row_of, column_of, top, bottom, left, right, grid, owner}
+use Rattle.splits.specs.Places.{room, start, held}
 use Rattle.splits.proofs.Blocks.{block_row, block_column, block_tall, block_wide}
 use Rattle.splits.proofs.Places.{ends_before}
 use Rattle.splits.proofs.Sums.{whole}

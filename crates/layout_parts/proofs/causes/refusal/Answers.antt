@@ -1,4 +1,4 @@
-use Rattle.std.proofs.Common.{◌≡◌, sym, arith}
+use Rattle.std.proofs.Common.{sym, arith}
 use Rattle.layout_parts.proofs.Making.{row_cuts, column_cuts, few_blocks}
 use Rattle.layout_parts.proofs.causes.refusal.Goals as goal
 

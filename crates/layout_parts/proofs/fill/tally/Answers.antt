@@ -1,7 +1,7 @@
-use Rattle.std.proofs.Common.{◌≡◌, ℕ, ◌+◌, ◌<◌, ◌≢◌, length, get_or, set, sym, refl, ap, ◌∙◌, subst, arith}
+use Rattle.std.proofs.Common.{◌≡◌, ℕ, ◌+◌, ◌<◌, ◌≢◌, length, get_or, ap, ◌∙◌, arith}
 use Rattle.std.proofs.lemmas.List.{get_or-set_other, length-replicate, length-set}
-use Rattle.splits.specs.Blocks.{Grid, blocks, grid, owner}
-use Rattle.splits.specs.Places.{start, held}
+use Rattle.splits.specs.Blocks.{blocks, grid}
+use Rattle.splits.specs.Places.{start}
 use Rattle.layout_parts.proofs.Tables.{counted, few, board, little, entry_more, tally_more, zeros}
 use Rattle.layout_parts.proofs.fill.tally.Goals as goal
 

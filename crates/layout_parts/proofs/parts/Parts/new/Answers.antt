@@ -1,4 +1,4 @@
-use Rattle.std.proofs.Common.{◌≡◌, sym}
+use Rattle.std.proofs.Common.{sym}
 use Rattle.layout_parts.proofs.Making.{buildable}
 use Rattle.layout_parts.proofs.parts.Parts.new.Goals as goal
 
