@@ -1,13 +1,13 @@
 -- What the invariants of a layout say of its grid.
-use Rattle.std.proofs.Common.{◌≡◌, ℕ, ◌+◌, ◌-◌, ◌*◌, ◌/◌, ◌%◌, ◌<◌, ◌≤◌, false, ltb, List, length, get_or, take, is_some, Some, None, Option, sym, refl, ap, ◌∙◌, subst, mul-le-mul, arith}
+use Rattle.std.proofs.Common.{◌≡◌, ℕ, ◌+◌, ◌*◌, ◌/◌, ◌%◌, ◌<◌, ◌≤◌, false, ltb, List, length, get_or, is_some, Some, None, Option, sym, refl, ap, ◌∙◌, subst, mul-le-mul, arith}
 use Rattle.std.proofs.lemmas.Nat.{div_below, mod_below}
 use Rattle.std.proofs.lemmas.List.{length-take-le, get_or-take}
 use Rattle.std.proofs.lemmas.Bool.{cond-true, lt-ltb}
 use Rattle.faults.specs.declared.cause.Cause.TheVariants.{Beyond}
 use Rattle.faults.specs.Lists.{Rule, Legal, first_wrong}
-use Rattle.splits.specs.Blocks.{Grid, Sound, blocks, row_blocks, column_blocks, owner, row_of, column_of, top, bottom, left, right}
+use Rattle.splits.specs.Blocks.{Sound, row_blocks, column_blocks, row_of, column_of, top, bottom, left, right}
 use Rattle.splits.specs.Owners.{owner_rule, Owned}
-use Rattle.splits.specs.Splits.{Cuts, split_rule, spans, covering}
+use Rattle.splits.specs.Splits.{split_rule, covering}
 use Rattle.splits.proofs.Blocks.{covered_once, block_tall, block_wide}
 use Rattle.splits.proofs.Cutting.{legal_cuts}
 use Rattle.splits.proofs.Owning.{legal_owned}

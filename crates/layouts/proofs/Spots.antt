@@ -1,12 +1,12 @@
 -- Where an element lies, from what is known of its block.
-use Rattle.std.proofs.Common.{◌≡◌, ℕ, ◌+◌, ◌-◌, ◌*◌, ◌<◌, ◌≤◌, ◌&&◌, ltb, Some, None, Option, sym, refl, ap, ◌∙◌, subst, inl, inr, mul-le-mul, arith}
+use Rattle.std.proofs.Common.{◌≡◌, ℕ, ◌+◌, ◌-◌, ◌*◌, ◌<◌, ◌≤◌, ◌&&◌, ltb, Some, None, Option, sym, ap, ◌∙◌, subst, inl, inr, mul-le-mul, arith}
 use Rattle.std.proofs.lemmas.Bool.{cases_Bool, and_parts, and_from, cond-true, lt-ltb, ltb-true}
 use Rattle.faults.specs.declared.cause.Cause.{Cause}
 use Rattle.faults.specs.declared.cause.Cause.TheVariants.{Beyond}
-use Rattle.splits.specs.Blocks.{Grid, Covers, blocks, owner, top, bottom, left, right, height, width}
+use Rattle.splits.specs.Blocks.{Covers, blocks, owner, top, left, height, width}
 use Rattle.splits.specs.Laws.{Naming}
 use Rattle.splits.specs.Splits.{covering}
-use Rattle.splits.specs.Places.{line, pitch, spot, start, inside, room, total, step_along_row, step_down_column, row_step, column_step}
+use Rattle.splits.specs.Places.{line, pitch, spot, start, inside, step_along_row, step_down_column, row_step, column_step}
 use Rattle.splits.proofs.Blocks.{covered_once, only, block_low, block_near}
 use Rattle.splits.proofs.Places.{ends_before, filled, in_parts, stepped}
 use Rattle.splits.proofs.Sums.{whole}

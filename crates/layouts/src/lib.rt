@@ -1,4 +1,6 @@
 // Layouts: how a matrix is spread over the boards, and where each element lies in a bank.
+#![tactic(auto)]
+
 pub mod layout;
 
 pub use layout::Layout;

@@ -1,4 +1,4 @@
-use Rattle.std.proofs.Common.{◌≡◌, refl, ap, ◌∙◌, arith}
+use Rattle.std.proofs.Common.{refl, ap, ◌∙◌, arith}
 use Rattle.splits.specs.Places.{total}
 use Rattle.layouts.proofs.layout.Layout.new.Goals as goal
 
@@ -8,7 +8,19 @@ invariant_of-result c =
     let h = c.in_ok-order.ensures.cases.1 in
     let b = h.limits in
     let f = h.filled in
-    (b.boards, (b.rows, (b.columns, (f.down, (f.across, (f.tabled, (f.rowed, (f.columned, (f.owned, (f.starts, ((λ p l. f.totals p (omega (arith, b.boards.1, l))), tt)))))))))))
+    record {
+      counted = b.boards;
+      tall = b.rows;
+      wide = b.columns;
+      down = f.down;
+      across = f.across;
+      tabled = f.tabled;
+      rowed = f.rowed;
+      columned = f.columned;
+      owned = f.owned;
+      started = f.starts;
+      totalled = λ p l. f.totals p (omega (arith, b.boards.1, l));
+    }
 
 pub returns : goal.returns
 returns c =

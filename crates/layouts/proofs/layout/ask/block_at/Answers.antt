@@ -1,4 +1,4 @@
-use Rattle.std.proofs.Common.{◌≡◌, arith}
+use Rattle.std.proofs.Common.{arith}
 use Rattle.layouts.proofs.Layouts.{row_index, top_held, bottom_held, left_held, right_held, tall, wide, few, owner_held, one}
 use Rattle.layouts.proofs.layout.ask.block_at.Goals as goal
 

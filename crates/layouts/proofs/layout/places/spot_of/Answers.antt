@@ -1,5 +1,5 @@
-use Rattle.std.proofs.Common.{◌≡◌, refl, ap, ◌∙◌}
-use Rattle.splits.specs.Places.{pitch, step_along_row, step_down_column}
+use Rattle.std.proofs.Common.{refl, ap, ◌∙◌}
+use Rattle.splits.specs.Places.{step_along_row, step_down_column}
 use Rattle.layouts.proofs.Spots.{in_row, in_column, low, near, early, spotted}
 use Rattle.layouts.proofs.layout.places.spot_of.Goals as goal
 
