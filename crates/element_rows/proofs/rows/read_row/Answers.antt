@@ -1,4 +1,4 @@
-use Rattle.std.proofs.Common.{◌≡◌, ◌+◌, ◌-◌, ◌*◌, ◌≤◌, ◌++◌, length, take, drop, set, sym, ap, ◌∙◌, suc-mul, add-one, arith, rules}
+use Rattle.std.proofs.Common.{◌≡◌, ◌+◌, ◌-◌, ◌*◌, ◌≤◌, ◌++◌, length, take, drop, set, ap, ◌∙◌, suc-mul, add-one, arith, rules}
 use Rattle.std.proofs.lemmas.List.{drop_all, append-nil}
 use Rattle.element_rows.specs.Rows.{row_of_words}
 use Rattle.element_rows.proofs.RowsOfWords.{room, unpack_more}

@@ -1,4 +1,4 @@
-use Rattle.std.proofs.Common.{◌≡◌, ◌-◌, length, take, replicate, ap, ◌∙◌}
+use Rattle.std.proofs.Common.{◌-◌, length, take, replicate, ap, ◌∙◌}
 use native.Mathlib.Nat.{sub-zero}
 use Rattle.std.proofs.lemmas.List.{take_at}
 use Rattle.element_rows.proofs.rows.write.Goals as goal
