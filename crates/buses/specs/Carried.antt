@@ -1,11 +1,11 @@
 -- The log of a bus after a put, at a look and after a drop.
-use Rattle.std.specs.Prelude.{◌≡◌, ℕ, zero, suc, ◌+◌, ◌-◌, ◌<◌, ◌≤◌, Bool, true, false, cond, ◌⊎◌, List, [], ◌∷◌, ◌++◌, length, take, drop, ◌==◌, slice_index, refl}
+use Rattle.std.specs.Prelude.{◌≡◌, ℕ, ◌+◌, ◌<◌, ◌≤◌, true, false, List, [], ◌∷◌, ◌++◌, length, take, drop, ◌==◌, slice_index, refl}
 use Rattle.std.proofs.Common.{inl, inr, sym, ap, subst, ◌∙◌, arith}
-use Rattle.std.proofs.lemmas.List.{append_assoc, append-nil, length-append, length-take-le, take_at, drop_at, take-take, get_or-take, drop-drop}
-use Rattle.std.proofs.lemmas.Bool.{both_ways, cases_Bool, eq-eqb, ne_eqb, eqb-true, and_from, lt-ltb, le-leb}
+use Rattle.std.proofs.lemmas.List.{append_assoc, append-nil, length-append, length-take-le, take_at, drop_at, take-take}
+use Rattle.std.proofs.lemmas.Bool.{both_ways, cases_Bool, eq-eqb, eqb-true, and_from, lt-ltb, le-leb}
 use Rattle.links.specs.Calls.{LookDone}
 use Rattle.buses.specs.Entries.{Entry, laid, entries, addressed, lawful, Whole, Found}
-use Rattle.links.specs.Frames.{Quiet, none_waits, oldest, younger, appended, removed}
+use Rattle.links.specs.Frames.{Quiet, none_waits, younger, appended, removed}
 use Rattle.buses.specs.Laid.{entries_laid, laid_append, addressed_append, lawful_append, lawful_front, lawful_back, entry_facts, whole_laid}
 
 -- the words up to the entry, the entry's and those after it

@@ -1,4 +1,6 @@
 // A link that keeps the waiting frames of all boards in one list of words.
+#![tactic(auto)]
+
 pub mod bus;
 mod entries;
 

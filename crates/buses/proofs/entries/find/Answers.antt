@@ -1,5 +1,5 @@
-use Rattle.std.proofs.Common.{◌≡◌, ℕ, ◌+◌, ◌<◌, length, sym, ap, ◌∙◌, arith}
-use Rattle.buses.proofs.Searched.{Next, passed_none, passed_more, passed_all, next_of, found_here}
+use Rattle.std.proofs.Common.{ℕ, ◌+◌, sym, ap, ◌∙◌, arith}
+use Rattle.buses.proofs.Searched.{passed_more, passed_all, next_of, found_here}
 use Rattle.buses.proofs.entries.find.Goals as goal
 
 pub returns-then-words-at : goal.returns-then-words-at

@@ -1,4 +1,4 @@
-use Rattle.std.proofs.Common.{◌≡◌, ℕ, ◌+◌, ◌-◌, ◌≤◌, List, get_or, take, ap, ◌∙◌, arith}
+use Rattle.std.proofs.Common.{ℕ, ◌+◌, ◌-◌, ◌≤◌, List, get_or, take, ap, ◌∙◌, arith}
 use Rattle.buses.proofs.Written.{slid}
 use Rattle.buses.proofs.entries.remove.Goals as goal
 

@@ -1,4 +1,4 @@
-use Rattle.std.proofs.Common.{◌≡◌, ℕ, ◌+◌, ◌-◌, ◌<◌, ◌≤◌, List, length, get_or, take, sym, refl, ap, ◌∙◌, subst, arith}
+use Rattle.std.proofs.Common.{◌≡◌, ℕ, ◌+◌, ◌-◌, List, length, get_or, take, sym, refl, ap, ◌∙◌, subst, arith}
 use Rattle.std.proofs.lemmas.List.{get_or-take, length-take-le}
 use Rattle.buses.specs.Buses.{log, queue}
 use Rattle.buses.specs.Entries.{Found}
@@ -33,7 +33,7 @@ invariant_of-self c =
     let len : length ws ≡ s.words.len = c.remove-self.auto.words ∙ c.deref_mut.ensures.len in
     let x = in_log s c.deref.result.now c.args.board c.in-Some.at c.deref.ensures.value c.in-Some.ensures in
     let done = drop_kept s c.deref_mut.result.now ws c.deref_mut.ensures.value len c.args.board c.in-Some.at c.remove-self.result x c.remove-self.ensures.after in
-    (s.within, (s.room, (omega (arith, s.fits, c.remove-self.ensures.size), (done.kept, (done.legal, tt)))))
+    record { within = s.within; room = s.room; fits = omega (arith, s.fits, c.remove-self.ensures.size); kept = done.kept; legal = done.legal }
 
 pub returns : goal.returns
 returns c =

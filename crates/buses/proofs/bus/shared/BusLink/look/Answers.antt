@@ -1,6 +1,5 @@
-use Rattle.std.proofs.Common.{◌≡◌, ℕ, ◌+◌, ◌-◌, ◌≤◌, List, ◌++◌, length, get_or, take, drop, sym, refl, ap, ◌∙◌, subst, arith}
+use Rattle.std.proofs.Common.{◌≡◌, ℕ, ◌+◌, ◌-◌, List, ◌++◌, length, get_or, take, drop, ap, ◌∙◌, subst, arith}
 use Rattle.buses.specs.Buses.{log, queue}
-use Rattle.links.specs.Calls.{LookDone}
 use Rattle.buses.specs.Entries.{Found}
 use Rattle.buses.specs.Carried.{found_waits, found_looked}
 use Rattle.buses.proofs.Refilled.{bus_whole}

@@ -1,4 +1,4 @@
-use Rattle.std.proofs.Common.{◌≡◌, ◌+◌, ◌≤◌, true, length, refl, ◌∙◌, arith}
+use Rattle.std.proofs.Common.{◌≡◌, ◌+◌, true, length, refl, ◌∙◌, arith}
 use Rattle.std.proofs.lemmas.Bool.{le-leb, leb-true}
 use Rattle.buses.specs.Buses.{roomy}
 use Rattle.buses.proofs.Refilled.{put_kept, put_lists}
@@ -13,7 +13,7 @@ invariant_of-self c =
     let len : length ws ≡ s.words.len = c.write.auto.words ∙ c.deref_mut.ensures.len in
     let o : roomy s c.args.board ≡ true = c.room.ensures.value.opens c.args.board ∙ le-leb 66 c.room.result (omega arith) in
     let done = put_kept s c.deref_mut.result.now ws c.deref_mut.ensures.value len c.args.board f (omega arith) (omega arith) (omega arith) c.write.ensures in
-    (s.within, (s.room, (omega (arith, leb-true (s.used + 66) s.words.len o), (done.kept, (done.legal, tt)))))
+    record { within = s.within; room = s.room; fits = omega (arith, leb-true (s.used + 66) s.words.len o); kept = done.kept; legal = done.legal }
 
 pub returns : goal.returns
 returns c =
