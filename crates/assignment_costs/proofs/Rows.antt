@@ -1,8 +1,8 @@
 -- Lists of costs, row by row: what the rule of their list says, and where an entry stands.
-use Rattle.std.proofs.Common.{◌≡◌, ℕ, zero, suc, ◌+◌, ◌-◌, ◌*◌, ◌^◌, ◌<◌, ◌≤◌, Bool, true, false, cond, ◌&&◌, eqb, ltb, leb, ◌≢◌, ◌⊎◌, List, [], ◌∷◌, length, get_or, drop, set, replicate, Some, None, Option, sym, refl, ap, ◌∙◌, subst, inl, inr, mul-le-mul_right, add-mul, mul-le-mul, one-mul, arith, get_or-set_other, get_or-set_same}
+use Rattle.std.proofs.Common.{◌≡◌, ℕ, zero, suc, ◌+◌, ◌-◌, ◌*◌, ◌^◌, ◌<◌, ◌≤◌, true, false, ◌&&◌, eqb, ltb, leb, ◌≢◌, ◌⊎◌, List, [], ◌∷◌, length, get_or, drop, set, replicate, Some, None, Option, refl, ap, ◌∙◌, inl, inr, mul-le-mul_right, add-mul, mul-le-mul, one-mul, arith, get_or-set_other, get_or-set_same}
 use Rattle.std.proofs.lemmas.Bool.{cases_Bool, cases_eq, cases_lt, eqb-true, leb-true, ltb-true, eq-eqb, lt-ltb, le-leb, le-ltb, lt-leb, ne_eqb, and_parts, and_from, and_left, and_right}
 use Rattle.std.proofs.lemmas.List.{set_past, at_drop_more, at_drop_all}
-use Rattle.faults.specs.Lists.{Rule, wrong_from, first_wrong, Completes}
+use Rattle.faults.specs.Lists.{wrong_from, first_wrong, Completes}
 use Rattle.assignment_costs.specs.Costs.{row_rule}
 
 -- a write within the limit keeps a list within it

@@ -7,7 +7,7 @@
 --     rows_refusal n costs   why the list gives no table of n boards
 --     WrongRows             the first forbidden index of a list of costs is where no right list agrees with it any more
 --     Zeroed, Rowed, Written what a table is after the call
-use Rattle.std.specs.Prelude.{◌≡◌, ℕ, ◌+◌, ◌*◌, ◌^◌, ◌<◌, ◌≤◌, Bool, true, false, cond, ◌&&◌, ◌||◌, ◌⊎◌, List, length, Some, None, Option, ◌==◌, ◌≢◌, nat_le, nat_lt, slice_index}
+use Rattle.std.specs.Prelude.{◌≡◌, ℕ, ◌+◌, ◌*◌, ◌^◌, ◌<◌, ◌≤◌, cond, ◌&&◌, ◌||◌, ◌⊎◌, List, length, Some, None, Option, ◌==◌, ◌≢◌, nat_le, nat_lt, slice_index}
 use Rattle.std.specs.Option.{option_map}
 use Rattle.faults.specs.Lists.{Rule, first_wrong, WrongAt}
 use Rattle.faults.specs.declared.cause.Cause.{Cause}

@@ -1,4 +1,4 @@
-use Rattle.std.proofs.Common.{ℕ, ◌+◌, ◌*◌, ◌^◌, ◌<◌, ◌≤◌, get_or, sym, refl, inl, inr, arith, length-set, rules}
+use Rattle.std.proofs.Common.{◌+◌, ◌*◌, ◌^◌, get_or, refl, inl, inr, arith, length-set}
 use Rattle.std.proofs.lemmas.Bool.{cases_eq}
 use Rattle.assignment_costs.proofs.Rows.{row_place, capped_set, spread_above, spread_row, spread_past}
 use Rattle.assignment_costs.proofs.Zeros.{getD_zeros}

@@ -1,4 +1,4 @@
-use Rattle.std.proofs.Common.{None, sym, refl, ◌∙◌, arith, rules}
+use Rattle.std.proofs.Common.{None, sym, arith}
 use Rattle.assignment_costs.proofs.Rows.{whole}
 use Rattle.assignment_costs.proofs.costs.Costs.from_rows.Goals as goal
 
