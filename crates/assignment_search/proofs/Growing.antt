@@ -8,7 +8,7 @@ use Rattle.assignment_search.specs.declared.tree.Matching.{Matching}
 use Rattle.assignment_search.specs.declared.tree.Prices.{Prices}
 use Rattle.assignment_search.specs.declared.tree.Tree.{Tree}
 use Rattle.assignment_costs.specs.Costs.{cost_at}
-use Rattle.assignment_search.specs.Search.{val, Better, Relaxed, Nearest, Planted}
+use Rattle.assignment_search.specs.Search.{val, Relaxed, Nearest, Planted}
 use Rattle.assignment_search.specs.Trees.{Matched, Fair, From, Rooted, unused, Grown, Joined}
 
 -- one board fewer is outside the tree

@@ -1,5 +1,5 @@
 -- The prices after a path: still feasible and low, tight where a role holds a board, and tight along the tree's ways.
-use Rattle.std.proofs.Common.{◌≡◌, ℕ, zero, suc, ◌+◌, ◌-◌, ◌*◌, ◌^◌, ◌<◌, ◌≤◌, cond, eqb, ltb, ◌⊎◌, sym, refl, ap, ◌∙◌, subst, inl, inr, arith}
+use Rattle.std.proofs.Common.{◌≡◌, ℕ, ◌+◌, ◌-◌, ◌*◌, ◌^◌, ◌<◌, ◌≤◌, eqb, ltb, sym, ap, ◌∙◌, subst, inl, inr, arith}
 use Rattle.std.proofs.lemmas.Bool.{cases_eq, cases_lt, eq-eqb, ne_eqb, lt-ltb, le-ltb, cond-true, cond-false}
 use Rattle.assignment_costs.specs.declared.costs.Costs.{Costs}
 use Rattle.assignment_search.specs.declared.tree.Matching.{Matching}
@@ -7,8 +7,8 @@ use Rattle.assignment_search.specs.declared.tree.Prices.{Prices}
 use Rattle.assignment_search.specs.declared.tree.Tree.{Tree}
 use Rattle.assignment_costs.specs.Costs.{cost_at}
 use Rattle.assignment_search.specs.Search.{val}
-use Rattle.assignment_search.specs.Trees.{Matched, Fair, Held, From, Rooted, Found}
-use Rattle.assignment_search.specs.Paths.{gap_of, rise_of, Settled, Nearer, Route, Pairs, Freed, Switched}
+use Rattle.assignment_search.specs.Trees.{Matched, Fair, Held, Found}
+use Rattle.assignment_search.specs.Paths.{gap_of, rise_of, Settled, Route, Switched}
 
 -- the gap of a board outside the tree, and of one inside it
 gap_outside : (t : Tree) (far y : ℕ) → val t.rank y ≡ 0 → gap_of t far y ≡ 0

@@ -1,5 +1,5 @@
 -- Where the search starts: nobody has a board, and all prices are 0.
-use Rattle.std.proofs.Common.{◌≡◌, ℕ, ◌+◌, ◌*◌, ◌<◌, ◌≤◌, get_or, replicate, arith}
+use Rattle.std.proofs.Common.{◌≡◌, ℕ, ◌<◌, replicate, arith}
 use Rattle.std.proofs.lemmas.List.{get_or-replicate}
 use Rattle.assignment_costs.specs.declared.costs.Costs.{Costs}
 use Rattle.assignment_costs.proofs.Zeros.{getD_zeros}

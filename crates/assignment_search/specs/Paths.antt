@@ -3,8 +3,7 @@
 --     Settled              prices after the path: the tree's roles and boards rise by their gaps, the root by all of far
 --     Route n m root t e   the path leads from board e back to the root, each board at a lower rank
 --     Switched             every board on the path is held by the role from which it was reached
-use Rattle.std.specs.Prelude.{◌≡◌, ℕ, ◌+◌, ◌-◌, ◌*◌, ◌^◌, ◌<◌, ◌≤◌, cond, ◌⊎◌, ◌==◌, ◌≢◌, nat_lt}
-use Rattle.assignment_costs.specs.declared.costs.Costs.{Costs}
+use Rattle.std.specs.Prelude.{◌≡◌, ℕ, ◌+◌, ◌-◌, ◌<◌, ◌≤◌, cond, ◌⊎◌, ◌==◌, ◌≢◌, nat_lt}
 use Rattle.assignment_search.specs.declared.tree.Matching.{Matching}
 use Rattle.assignment_search.specs.declared.tree.Prices.{Prices}
 use Rattle.assignment_search.specs.declared.tree.Tree.{Tree}

@@ -2,9 +2,8 @@
 --     val xs k        the entry of a table at k
 --     Offered         a board of the tree after it may be reached from one more role
 --     Relaxed         the tree after every board outside it may be reached from one more role
-use Rattle.std.specs.Prelude.{◌≡◌, ℕ, ◌+◌, ◌*◌, ◌^◌, ◌<◌, ◌≤◌, ◌⊎◌, List, length, ◌≢◌, slice_index}
+use Rattle.std.specs.Prelude.{◌≡◌, ℕ, ◌+◌, ◌<◌, ◌≤◌, ◌⊎◌, List, ◌≢◌, slice_index}
 use Rattle.assignment_costs.specs.declared.costs.Costs.{Costs}
-use Rattle.assignment_search.specs.declared.tree.Matching.{Matching}
 use Rattle.assignment_search.specs.declared.tree.Prices.{Prices}
 use Rattle.assignment_search.specs.declared.tree.Tree.{Tree}
 use Rattle.assignment_costs.specs.Costs.{cost_at}

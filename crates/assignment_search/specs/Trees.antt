@@ -7,7 +7,7 @@
 --     Full c p m               the search is done: every role has a board
 --     Found                    a tree whose path is at its end
 --     Grown                    a tree in growth, with its next board and its next step
-use Rattle.std.specs.Prelude.{◌≡◌, ℕ, ◌+◌, ◌*◌, ◌^◌, ◌<◌, ◌≤◌, cond, ◌⊎◌, ◌==◌, ◌≢◌}
+use Rattle.std.specs.Prelude.{◌≡◌, ℕ, ◌+◌, ◌^◌, ◌<◌, ◌≤◌, cond, ◌⊎◌, ◌==◌, ◌≢◌}
 use Rattle.assignment_laws.specs.Namings.{total}
 use Rattle.assignment_costs.specs.declared.costs.Costs.{Costs}
 use Rattle.assignment_search.specs.declared.tree.Matching.{Matching}

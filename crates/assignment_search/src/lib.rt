@@ -1,4 +1,6 @@
 // The search for a least naming, along shortest paths.
+#![tactic(auto)]
+
 mod paths;
 mod search;
 pub mod solving;

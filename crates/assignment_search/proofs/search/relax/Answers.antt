@@ -1,4 +1,4 @@
-use Rattle.std.proofs.Common.{◌≡◌, ℕ, ◌+◌, ◌-◌, ◌<◌, sym, ap, ◌∙◌, subst, arith}
+use Rattle.std.proofs.Common.{◌≡◌, ◌+◌, ◌-◌, sym, ap, subst, arith}
 use Rattle.assignment_costs.specs.Costs.{cost_at}
 use Rattle.assignment_search.specs.Search.{val, Relaxing}
 use Rattle.assignment_search.proofs.Relaxing.{relaxing_skip, relaxing_offer}
