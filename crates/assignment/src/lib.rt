@@ -1,4 +1,6 @@
 // Least namings: which board takes which role so that the bill is least, with prices that prove it.
+#![tactic(auto)]
+
 pub mod judging;
 pub mod plan;
 pub mod solving;

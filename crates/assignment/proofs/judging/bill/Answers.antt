@@ -1,4 +1,4 @@
-use Rattle.std.proofs.Common.{eqb, leb, sym, arith}
+use Rattle.std.proofs.Common.{eqb, leb, sym}
 use Rattle.std.proofs.lemmas.Bool.{or_parts, leb-false}
 use Rattle.assignment_laws.specs.Judging.{any_below, misnamed}
 use Rattle.assignment_search.specs.Search.{val}

@@ -1,4 +1,4 @@
-use Rattle.std.proofs.Common.{◌||◌, sym}
+use Rattle.std.proofs.Common.{sym}
 use Rattle.assignment_laws.specs.Judging.{misnamed}
 use Rattle.assignment_search.specs.Search.{val}
 use Rattle.assignment_laws.proofs.Verdicts.{first_found, first_more}

@@ -1,4 +1,4 @@
-use Rattle.std.proofs.Common.{◌≡◌, None, sym, ap, ◌∙◌}
+use Rattle.std.proofs.Common.{sym, ap, ◌∙◌}
 use Rattle.std.specs.Option.{option_map}
 use Rattle.faults.specs.declared.cause.Cause.TheVariants.{Plan}
 use Rattle.assignment_costs.specs.Costs.{cost_at}

@@ -1,4 +1,4 @@
-use Rattle.std.proofs.Common.{◌<◌, ap, arith}
+use Rattle.std.proofs.Common.{ap, arith}
 use Rattle.assignment.specs.declared.plan.Assignment.{Assignment}
 use Rattle.std.specs.Option.{option_map}
 use Rattle.faults.specs.declared.cause.Cause.TheVariants.{Plan}
