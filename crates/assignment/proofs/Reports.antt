@@ -7,7 +7,7 @@ use Rattle.assignment.specs.declared.plan.Assignment.{Assignment}
 use Rattle.assignment_search.specs.declared.tree.Matching.{Matching}
 use Rattle.assignment_search.specs.declared.tree.Prices.{Prices}
 use Rattle.assignment_costs.specs.Costs.{cost_at}
-use Rattle.assignment.specs.Plans.{name_of, role_price, board_price, Certifies}
+use Rattle.assignment.specs.Plans.{name_of, role_price, board_price, Certified}
 use Rattle.assignment_laws.specs.Judging.{Within}
 use Rattle.assignment_search.specs.Search.{val}
 use Rattle.assignment_search.specs.Trees.{Full}
@@ -39,7 +39,7 @@ module _
       subst (λ z. val p.roles z ≡ cost_at c z y + val p.discounts y) own
       (full.held y (shown_below x l) (λ q. omega (arith, c.most, shown_below x l)) (omega (arith, own, c.most)))
 
-  pub shown_certified : a.bill ≡ bill_of (cost_at c) c.boards (name_of a) → Certifies c a
+  pub shown_certified : a.bill ≡ bill_of (cost_at c) c.boards (name_of a) → Certified c a
   shown_certified bill =
       record {
         permutation =

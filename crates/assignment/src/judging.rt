@@ -1,8 +1,8 @@
 // The bill of a naming, and the judge of a proposed assignment.
-ghost use Rattle.std.specs.Prelude.{◌≡◌, ℕ, ◌+◌, ◌*◌, ◌^◌, ◌<◌, ◌≤◌, length, pos, ◌+ℤ◌, int_lt};
+ghost use Rattle.std.specs.Prelude.{◌≡◌, ℕ, ◌+◌, ◌*◌, ◌^◌, ◌<◌, ◌≤◌, ◌||◌, length, pos, ◌+ℤ◌, int_lt};
 ghost use Rattle.assignment_costs.specs.Costs.{cost_at};
-ghost use Rattle.assignment.specs.Plans.{Certifies, name_of, role_price, board_price, bill_refusal, judge_refusal, proposal};
-ghost use Rattle.assignment_laws.specs.Judging.{Within, first_below, misnamed, beyond, unfit, unfair};
+ghost use Rattle.assignment.specs.Plans.{Certified, name_of, role_price, board_price, unpriced, unfair, bill_refusal, judge_refusal};
+ghost use Rattle.assignment_laws.specs.Judging.{Within, first_below, misnamed, beyond};
 ghost use Rattle.assignment_search.specs.Search.{val};
 ghost use Rattle.assignment_laws.specs.Namings.{bill_of, Least};
 ghost use Rattle.faults.specs.Answers.{Answers};
@@ -24,7 +24,7 @@ pub fn bill(costs: &Costs, naming: &[usize; 16]) -> Result<u64, Fault>
 // Whether the proposal is certified by its prices, so that no naming costs less than its bill.
 // Only the first entries of its tables count, one for each board.
 pub fn judge(costs: &Costs, plan: &Assignment) -> Result<(), Fault>
-    ensures { Answers Layer.Assignment Call.Judge (judge_refusal costs.now plan.now) result (λ _. Certifies costs.now plan.now × Least (cost_at costs.now) costs.now.boards plan.now.bill) (Unit {0}) }
+    ensures { Answers Layer.Assignment Call.Judge (judge_refusal costs.now plan.now) result (λ _. Certified costs.now plan.now × Least (cost_at costs.now) costs.now.boards plan.now.bill) (Unit {0}) }
 {
     if let Some(role) = first_unfit(costs.boards, plan) {
         return Err(fault(Call::Judge, Cause::Plan { role }));
@@ -88,7 +88,7 @@ fn is_beyond(price: i64) -> bool
 // Whether the role is named wrongly, or its price or that of the board of its number is out of range.
 fn is_unfit(boards: usize, plan: &Assignment, role: usize) -> bool
     requires { role < 16 }
-    ensures { result ≡ unfit boards (proposal plan.now) role }
+    ensures { result ≡ (misnamed boards (name_of plan.now) role || unpriced plan.now role) }
 {
     let misnamed = is_misnamed(boards, &plan.naming, role);
     let role_beyond = is_beyond(plan.roles[role]);
@@ -98,7 +98,7 @@ fn is_unfit(boards: usize, plan: &Assignment, role: usize) -> bool
 
 fn first_unfit(boards: usize, plan: &Assignment) -> Option<usize>
     requires { boards ≤ 16 }
-    ensures { result ≡ first_below (unfit boards (proposal plan.now)) boards }
+    ensures { result ≡ first_below (λ x. misnamed boards (name_of plan.now) x || unpriced plan.now x) boards }
 {
     for role in 0..boards {
         if is_unfit(boards, plan, role) {
@@ -131,7 +131,7 @@ fn is_unfair(costs: &Costs, plan: &Assignment, role: usize) -> bool
     requires role { role < costs.now.boards }
     requires named { name_of plan.now role < costs.now.boards }
     requires within { (x : ℕ) → x < costs.now.boards → Within (role_price plan.now x) × Within (board_price plan.now x) }
-    ensures { result ≡ unfair (cost_at costs.now) costs.now.boards (proposal plan.now) role }
+    ensures { result ≡ unfair costs.now plan.now role }
 {
     for y in 0..costs.boards {
         if is_above(plan.roles[role], plan.boards[y], costs.table[role * 16 + y]) {
@@ -149,7 +149,7 @@ fn is_unfair(costs: &Costs, plan: &Assignment, role: usize) -> bool
 fn first_unfair(costs: &Costs, plan: &Assignment) -> Option<usize>
     requires named { (x : ℕ) → x < costs.now.boards → name_of plan.now x < costs.now.boards }
     requires within { (x : ℕ) → x < costs.now.boards → Within (role_price plan.now x) × Within (board_price plan.now x) }
-    ensures { result ≡ first_below (unfair (cost_at costs.now) costs.now.boards (proposal plan.now)) costs.now.boards }
+    ensures { result ≡ first_below (unfair costs.now plan.now) costs.now.boards }
 {
     for role in 0..costs.boards {
         if is_unfair(costs, plan, role) {

@@ -2,7 +2,9 @@
 use Rattle.std.proofs.Common.{◌≡◌, ℕ, ◌<◌, Bool, eqb, ◌⊎◌, List, Some, None, Option, sym, ap, ◌∙◌, subst, inl, inr, arith}
 use Rattle.std.proofs.lemmas.Bool.{cases_Bool, cond-false, eqb-true}
 use Rattle.std.specs.Option.{option_map, option_or}
-use Rattle.assignment.specs.Plans.{Certifies, board_price, judge_refusal, name_of, proposal, role_price}
+use Rattle.assignment.proofs.Proposals.{to_proposal}
+use Rattle.assignment.specs.Plans as plans
+use Rattle.assignment.specs.Plans.{board_price, judge_refusal, name_of, proposal, role_price}
 use Rattle.assignment.specs.declared.plan.Assignment.{Assignment}
 use Rattle.assignment_costs.specs.Costs.{cost_at}
 use Rattle.assignment_costs.specs.declared.costs.Costs.{Costs}
@@ -36,14 +38,14 @@ fits d n e =
 module _ (price : Question → ℕ) (d : Drawing) (w : ℕ) (t : Bool) (c : Costs) (costed : Costed price d w t c) (a : Assignment) (p : Plan)
     (lines : (x : ℕ) → x < d.target.boards → (name_of a x ≡ (line_of p x).board) × (role_price a x ≡ (line_of p x).u) × (board_price a x ≡ (line_of p x).v))
     (bill : a.bill ≡ p.bill) where
-  pub certified_plan : Certifies c a → Certified (cost_of price d w t) d.target.boards (proposed p)
+  pub certified_plan : plans.Certified c a → Certified (cost_of price d w t) d.target.boards (proposed p)
   certified_plan k =
       certified_same (cost_at c) (cost_of price d w t) d.target.boards (proposal a) (proposed p) costed.entries
       (λ x l. (lines x l).0)
       (λ x l. (lines x l).1)
       (λ x l. (lines x l).2)
       bill
-      (subst (λ n. Certified (cost_at c) n (proposal a)) costed.count k)
+      (subst (λ n. Certified (cost_at c) n (proposal a)) costed.count (to_proposal c a k))
 
   pub judged_plan : wrong_role (cost_at c) c.boards (proposal a) ≡ wrong_role (cost_of price d w t) d.target.boards (proposed p)
   judged_plan =

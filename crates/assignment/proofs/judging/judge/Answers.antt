@@ -3,6 +3,7 @@ use Rattle.std.specs.Option.{option_map}
 use Rattle.faults.specs.declared.cause.Cause.TheVariants.{Plan}
 use Rattle.assignment_costs.specs.Costs.{cost_at}
 use Rattle.assignment.specs.Plans.{proposal}
+use Rattle.assignment.proofs.Proposals.{from_proposal}
 use Rattle.assignment_laws.proofs.Certificates.{certified_least, fit_within, fit_permute, accepted_certified, accepted}
 use Rattle.assignment.proofs.judging.judge.Goals as goal
 
@@ -26,4 +27,4 @@ returns c =
     let fair = sym c.in_default-first_unfair.ensures in
     let bill = c.if-plan-sum_of.false ∙ c.sum_of.ensures in
     let certified = accepted_certified cost n p fit fair bill in
-    (ap (option_map Plan) (accepted cost n p fit fair bill), (certified, certified_least cost n p certified))
+    (ap (option_map Plan) (accepted cost n p fit fair bill), (from_proposal c.args.costs.now c.args.plan.now certified, certified_least cost n p certified))

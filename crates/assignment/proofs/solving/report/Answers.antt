@@ -5,6 +5,7 @@ use Rattle.faults.specs.declared.cause.Cause.TheVariants.{Plan}
 use Rattle.assignment_costs.specs.Costs.{cost_at}
 use Rattle.assignment.specs.Plans.{proposal}
 use Rattle.assignment_laws.proofs.Certificates.{certified_least, certified_accepted}
+use Rattle.assignment.proofs.Proposals.{to_proposal}
 use Rattle.assignment.proofs.Reports.{shown_certified}
 use Rattle.assignment.proofs.solving.report.Goals as goal
 
@@ -18,4 +19,5 @@ returns c =
     c.sum_of-bill.ensures in
     let cost = cost_at costs in
     let n = costs.boards in
-    record { certified = certified; least = certified_least cost n (proposal a) certified; accepted = ap (option_map Plan) (certified_accepted cost n (proposal a) certified); past = λ k l. c.loop-x.invariant.4 k (omega arith) }
+    let proposed = to_proposal costs a certified in
+    record { certified = certified; least = certified_least cost n (proposal a) proposed; accepted = ap (option_map Plan) (certified_accepted cost n (proposal a) proposed); past = λ k l. c.loop-x.invariant.4 k (omega arith) }
