@@ -1,5 +1,7 @@
 // What a drawing is made of: the rules of its parts and the lines of parts that keep them; and what it answers
 // about a cell.
+#![tactic(auto)]
+
 mod causes;
 pub mod cell;
 pub mod lines;

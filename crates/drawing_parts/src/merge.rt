@@ -16,8 +16,8 @@ fn passed(splits: &[u16], i: usize, line: u16) -> usize
 
 // The lines of a side of this size that the target and the source cut at these splits.
 pub(crate) fn merge(size: u16, target: &[u16], source: &[u16]) -> Lines
-    requires cuts { Cuts size target.now }
-    requires cuts_2 { Cuts size source.now }
+    requires target_cuts { Cuts size target.now }
+    requires source_cuts { Cuts size source.now }
     ensures { Ruled size target.now source.now result }
 {
     let mut cuts = [0; 64];
