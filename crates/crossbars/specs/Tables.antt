@@ -1,11 +1,11 @@
 -- The crossbar's lists after one inbox changed.
-use Rattle.std.specs.Prelude.{◌≡◌, ℕ, zero, suc, ◌+◌, ◌<◌, ◌≤◌, Bool, true, false, cond, ◌≢◌, ◌⊎◌, List, [], ◌∷◌, ◌++◌, map, length, take, drop, ◌==◌, slice_index_or, slice_set, refl}
+use Rattle.std.specs.Prelude.{◌≡◌, ℕ, zero, suc, ◌<◌, ◌≤◌, true, false, cond, List, [], ◌∷◌, ◌++◌, map, length, take, drop, ◌==◌, slice_index_or, slice_set, refl}
 use Rattle.std.proofs.Common.{inl, inr, sym, ap, subst, ◌∙◌, arith}
 use Rattle.std.proofs.lemmas.List.{get_or-map, get_or-set_same, get_or-set_other, length-map, length-take-le, map-set}
 use Rattle.std.proofs.lemmas.Bool.{cases_eq, eq-eqb, ne_eqb, both_ways, cond-true, cond-false}
 use Rattle.links.specs.Calls.{LookDone}
 use Rattle.crossbars.specs.Crossbars.{content}
-use Rattle.links.specs.Frames.{Frame, Frames, none_waits, oldest, younger}
+use Rattle.links.specs.Frames.{Frames, none_waits, younger}
 use Rattle.crossbars.specs.Held.{held}
 use Rattle.crossbars.specs.declared.inbox.Inbox.{Inbox}
 

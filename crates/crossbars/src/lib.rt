@@ -1,4 +1,6 @@
 // A link with one inbox for each board.
+#![tactic(auto)]
+
 pub mod crossbar;
 mod inbox;
 

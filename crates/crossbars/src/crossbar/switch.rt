@@ -6,7 +6,8 @@ ghost use Rattle.faults.specs.declared.fault.Layer.TheVariants.{Links};
 ghost use Rattle.crossbars.specs.Crossbars.{queue, vacant, NewCrossbar};
 ghost use Rattle.links.specs.Refusals.{crossbar_refusal};
 ghost use Rattle.crossbars.specs.Tables.{frames_at};
-ghost use Rattle.std.proofs.Common.{rules, arith};
+ghost use Rattle.std.proofs.Common.{ap};
+ghost use Rattle.links.specs.Frames.{none_waits};
 
 use crate::crossbar::Crossbar;
 use crate::inbox::Inbox;
@@ -38,7 +39,7 @@ impl Link for Crossbar {
 
     ghost framed = { λ s k. frames_at s.inboxes k };
 
-    ghost opens = { first_of (Prim.search rules, Prim.grind (arith, Self.row.coded.inj)) };
+    ghost opens = { λ s q k l. ap none_waits (q k l) };
 
     fn board_count(&self) -> usize {
         self.boards

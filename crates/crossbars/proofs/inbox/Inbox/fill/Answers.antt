@@ -5,7 +5,7 @@ use Rattle.crossbars.specs.Held.{held}
 use Rattle.crossbars.proofs.inbox.Inbox.fill.Goals as goal
 
 pub invariant_of-self : goal.invariant_of-self
-invariant_of-self c = (c.requires.1, (simp (length-append, length-drop) (omega (arith, c.copy_from_slice.ensures.len, c.args.self.now.sized, c.requires.1)), tt))
+invariant_of-self c = record { fits = c.requires.1; sized = simp (length-append, length-drop) (omega (arith, c.copy_from_slice.ensures.len, c.args.self.now.sized, c.requires.1)) }
 
 pub returns : goal.returns
 returns c =

@@ -1,4 +1,4 @@
-use Rattle.std.proofs.Common.{◌≡◌, ℕ, ◌<◌, ◌≤◌, true, false, List, [], ◌∷◌, ◌++◌, length, sym, refl, ap, ◌∙◌, arith}
+use Rattle.std.proofs.Common.{◌≡◌, ◌<◌, true, false, length, sym, refl, ap, ◌∙◌, arith}
 use Rattle.crossbars.specs.Crossbars.{queue, content}
 use Rattle.links.specs.Frames.{none_waits, younger}
 use Rattle.links.proofs.Refused.{refused_by, drop_some, drop_none}
