@@ -1,11 +1,11 @@
 -- What the invariants of a drawing say of its overlay.
-use Rattle.std.proofs.Common.{◌≡◌, ℕ, ◌+◌, ◌-◌, ◌*◌, ◌/◌, ◌%◌, ◌<◌, ◌≤◌, ltb, [], ◌∷◌, length, get_or, take, Some, None, sym, refl, ap, ◌∙◌, subst, mul_comm, mul-le-mul, arith}
+use Rattle.std.proofs.Common.{◌≡◌, ℕ, ◌+◌, ◌-◌, ◌*◌, ◌/◌, ◌%◌, ◌<◌, ◌≤◌, ltb, [], ◌∷◌, get_or, Some, None, sym, ap, ◌∙◌, subst, mul_comm, mul-le-mul, arith}
 use Rattle.std.proofs.lemmas.Nat.{mul-add-lt, div-mul-add, mod-mul-add, div_below, mod_below, div-add-mod'}
 use Rattle.std.proofs.lemmas.Bool.{cond-true, lt-ltb}
 use Rattle.std.proofs.lemmas.List.{length-take-le, get_or-take}
 use Rattle.drawings.specs.declared.drawing.Drawing.{Drawing}
 use Rattle.drawing_parts.specs.declared.lines.Lines.{Lines}
-use Rattle.drawing_parts.specs.Parts.{Ruled, Drawable, elements_of, used, over, source_rows, source_columns}
+use Rattle.drawing_parts.specs.Parts.{Drawable, elements_of, used, over, source_rows, source_columns}
 use Rattle.drawings.specs.Drawings.{overlay_of, cells, cell_top, cell_left, package_of, LawsOf}
 use Rattle.drawings.specs.Asking.{IsCell, IsCover, board_cause, board_refusal, cell_refusal}
 use Rattle.drawing_parts.specs.declared.cell.Cell.{Cell}

@@ -1,5 +1,7 @@
 // Drawings: which blocks of a source layout a target layout's elements come from, cell by cell, and what
 // each board sends for each role.
+#![tactic(auto)]
+
 pub mod drawing;
 
 pub use drawing::Drawing;

@@ -19,7 +19,7 @@ pub(crate) fn blocks_at(
     j: usize,
 ) -> (usize, usize)
     requires drawable { Drawable operation target.now source.now rows.now columns.now }
-    requires i_lt_spans { (i < rows.now.spans) × (j < columns.now.spans) }
+    requires inside { (i < rows.now.spans) × (j < columns.now.spans) }
     ensures target { result.0 ≡ target_block (over operation target.now source.now rows.now columns.now) (i * columns.now.spans + j) }
     ensures source { result.1 ≡ source_block (over operation target.now source.now rows.now columns.now) (i * columns.now.spans + j) }
 {
@@ -54,7 +54,7 @@ pub(crate) fn owners_at(
     j: usize,
 ) -> (usize, usize)
     requires drawable { Drawable operation target.now source.now rows.now columns.now }
-    requires i_lt_spans { (i < rows.now.spans) × (j < columns.now.spans) }
+    requires inside { (i < rows.now.spans) × (j < columns.now.spans) }
     ensures bound { (result.0 < 16) × (result.1 < 16) }
     ensures sender { result.0 ≡ sender (over operation target.now source.now rows.now columns.now) (i * columns.now.spans + j) }
     ensures role { result.1 ≡ role (over operation target.now source.now rows.now columns.now) (i * columns.now.spans + j) }

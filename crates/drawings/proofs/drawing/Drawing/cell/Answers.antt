@@ -1,4 +1,4 @@
-use Rattle.std.proofs.Common.{◌≡◌, ◌<◌, refl, arith}
+use Rattle.std.proofs.Common.{◌<◌, refl, arith}
 use Rattle.drawings.specs.Drawings.{cells}
 use Rattle.drawings.proofs.Drawings.{drawable, row_in, column_in, tall_in, wide_in, asked_cell, is_cell}
 use Rattle.drawings.proofs.drawing.Drawing.cell.Goals as goal
@@ -7,7 +7,7 @@ pub owners_at-sender-requires : goal.owners_at-sender-requires
 owners_at-sender-requires c =
     let d = c.args.self.now in
     let h : c.args.cell < cells d = omega (arith, c.cell_count.ensures.value) in
-    (drawable d, (row_in d c.args.cell h, column_in d c.args.cell h))
+    record { drawable = drawable d; inside = (row_in d c.args.cell h, column_in d c.args.cell h) }
 
 pub bounds-self-i : goal.bounds-self-i
 bounds-self-i c =

@@ -9,7 +9,23 @@ invariant_of-result c =
     let s = p.column_side in
     let x = r.union.lines in
     let y = s.union.lines in
-    (p.fits, (r.counted, ((x.first, x.rises, x.last, x.long), (r.union.entries, (r.target, (r.source, (s.counted, ((y.first, y.rises, y.last, y.long), (s.union.entries, (s.target, (s.source, (p.lent, (p.kept, (c.tally-packages.ensures.len, (c.tally-packages.ensures.items, tt)))))))))))))))
+    record {
+      fitted = p.fits;
+      counted = r.counted;
+      rising = (x.first, x.rises, x.last, x.long);
+      joint = r.union.entries;
+      named = r.target;
+      sourced = r.source;
+      column_counted = s.counted;
+      column_rising = (y.first, y.rises, y.last, y.long);
+      column_joint = s.union.entries;
+      column_named = s.target;
+      column_sourced = s.source;
+      lent = p.lent;
+      kept = p.kept;
+      sized = c.tally-packages.ensures.len;
+      packed = c.tally-packages.ensures.items;
+    }
 
 pub returns : goal.returns
 returns c =

@@ -1,4 +1,4 @@
-use Rattle.std.proofs.Common.{◌≡◌, ◌≤◌, mul-le-mul, arith}
+use Rattle.std.proofs.Common.{◌≤◌, mul-le-mul, arith}
 use Rattle.drawings.proofs.Drawings.{package_most}
 use Rattle.drawings.proofs.drawing.Drawing.package_bytes.Goals as goal
 

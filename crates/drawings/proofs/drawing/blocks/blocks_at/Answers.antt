@@ -1,4 +1,4 @@
-use Rattle.std.proofs.Common.{◌≡◌, ◌+◌, ◌*◌, get_or, sym, refl, ap, ◌∙◌, arith}
+use Rattle.std.proofs.Common.{◌≡◌, ◌+◌, ◌*◌, get_or, sym, ap, ◌∙◌, arith}
 use Rattle.drawings.proofs.Drawings.{source_at, source_few, target_at}
 use Rattle.drawings.proofs.drawing.blocks.blocks_at.Goals as goal
 use Rattle.layouts.specs.Layouts.{grid_of}
@@ -19,8 +19,8 @@ overflow_add-result-2 c =
     omega (
       arith,
       e,
-      source_at op c.args.target.now c.args.source.now c.args.rows.now c.args.columns.now c.requires.0 c.args.i c.args.j c.requires.1.0 c.requires.1.1,
-      source_few op c.args.target.now c.args.source.now c.args.rows.now c.args.columns.now c.requires.0 c.args.i c.args.j c.requires.1.0 c.requires.1.1,
+      source_at op c.args.target.now c.args.source.now c.args.rows.now c.args.columns.now c.requires.drawable c.args.i c.args.j c.requires.inside.0 c.requires.inside.1,
+      source_few op c.args.target.now c.args.source.now c.args.rows.now c.args.columns.now c.requires.drawable c.args.i c.args.j c.requires.inside.0 c.requires.inside.1,
     )
 
 pub returns : goal.returns
@@ -35,6 +35,6 @@ returns c =
     record {
       target =
           ap (λ z. get_or c.args.rows.now.target c.args.i 0 * z + get_or c.args.columns.now.target c.args.j 0) (sym (column_spans c.args.target.now))
-          ∙ target_at op c.args.target.now c.args.source.now c.args.rows.now c.args.columns.now c.requires.0 c.args.i c.args.j c.requires.1.0 c.requires.1.1;
-      source = e ∙ source_at op c.args.target.now c.args.source.now c.args.rows.now c.args.columns.now c.requires.0 c.args.i c.args.j c.requires.1.0 c.requires.1.1;
+          ∙ target_at op c.args.target.now c.args.source.now c.args.rows.now c.args.columns.now c.requires.drawable c.args.i c.args.j c.requires.inside.0 c.requires.inside.1;
+      source = e ∙ source_at op c.args.target.now c.args.source.now c.args.rows.now c.args.columns.now c.requires.drawable c.args.i c.args.j c.requires.inside.0 c.requires.inside.1;
     }

@@ -1,4 +1,4 @@
-use Rattle.std.proofs.Common.{◌≡◌, ◌<◌, sym, refl, ap, ◌∙◌, subst, arith}
+use Rattle.std.proofs.Common.{ap, ◌∙◌, arith}
 use Rattle.drawings.proofs.Drawings.{source_in, target_in, sender_few, role_few}
 use Rattle.drawings.proofs.drawing.blocks.owners_at.Goals as goal
 use Rattle.layouts.specs.Layouts.{owner_of}
@@ -8,7 +8,7 @@ owner_at-requires c =
     omega (
       arith,
       c.blocks_at-t.ensures.source,
-      source_in c.args.operation c.args.target.now c.args.source.now c.args.rows.now c.args.columns.now c.requires.0 c.args.i c.args.j c.requires.1.0 c.requires.1.1,
+      source_in c.args.operation c.args.target.now c.args.source.now c.args.rows.now c.args.columns.now c.requires.drawable c.args.i c.args.j c.requires.inside.0 c.requires.inside.1,
     )
 
 pub owner_at-requires-2 : goal.owner_at-requires-2
@@ -16,7 +16,7 @@ owner_at-requires-2 c =
     omega (
       arith,
       c.blocks_at-t.ensures.target,
-      target_in c.args.operation c.args.target.now c.args.source.now c.args.rows.now c.args.columns.now c.requires.0 c.args.i c.args.j c.requires.1.0 c.requires.1.1,
+      target_in c.args.operation c.args.target.now c.args.source.now c.args.rows.now c.args.columns.now c.requires.drawable c.args.i c.args.j c.requires.inside.0 c.requires.inside.1,
     )
 
 pub returns : goal.returns
@@ -27,8 +27,8 @@ returns c =
     let f = c.owner_at-2.ensures ∙ ap (owner_of t) c.blocks_at-t.ensures.target in
     record {
       bound = (
-        omega (arith, e, sender_few c.args.operation t s c.args.rows.now c.args.columns.now c.requires.0 c.args.i c.args.j c.requires.1.0 c.requires.1.1),
-        omega (arith, f, role_few c.args.operation t s c.args.rows.now c.args.columns.now c.requires.0 c.args.i c.args.j c.requires.1.0 c.requires.1.1),
+        omega (arith, e, sender_few c.args.operation t s c.args.rows.now c.args.columns.now c.requires.drawable c.args.i c.args.j c.requires.inside.0 c.requires.inside.1),
+        omega (arith, f, role_few c.args.operation t s c.args.rows.now c.args.columns.now c.requires.drawable c.args.i c.args.j c.requires.inside.0 c.requires.inside.1),
       );
       sender = e;
       role = f;

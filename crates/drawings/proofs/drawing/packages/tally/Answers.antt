@@ -1,7 +1,7 @@
-use Rattle.std.proofs.Common.{◌≡◌, ℕ, ◌+◌, ◌-◌, ◌*◌, ◌<◌, ◌≤◌, length, get_or, set, sym, refl, ap, ◌∙◌, subst, suc-mul, arith, rules}
+use Rattle.std.proofs.Common.{◌≡◌, ◌+◌, ◌-◌, ◌*◌, length, get_or, set, refl, ap, ◌∙◌, arith}
 use Rattle.std.proofs.lemmas.List.{length-set, get_or-replicate}
 use Rattle.drawing_parts.specs.Parts.{over}
-use Rattle.drawings.proofs.Drawings.{tall_at, wide_at, area_at, role_few, sender_few, package_few, package_all}
+use Rattle.drawings.proofs.Drawings.{tall_at, wide_at, area_at, package_few, package_all}
 use Rattle.drawings.proofs.drawing.packages.tally.Goals as goal
 use Rattle.overlays.specs.Overlays.{area}
 use Rattle.overlays.specs.Packages.{sum_below}
