@@ -1,3 +1,5 @@
+#![tactic(auto)]
+
 // Tests of the elements.
 #[cfg(test)]
 mod tests;
