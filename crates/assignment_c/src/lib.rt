@@ -1,4 +1,6 @@
 // The least bill for C, as the benchmark calls it.
+#![tactic(auto)]
+
 ghost use Rattle.assignment_c.specs.Exports.{LeastBill};
 
 use assignment::{Costs, solve};
