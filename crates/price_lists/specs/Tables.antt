@@ -9,7 +9,7 @@
 --     SamplePrice                      12 bytes at a latency of 100 and 3 for each byte cost 136
 use Rattle.std.specs.Prelude.{◌≡◌, ℕ, ◌+◌, ◌*◌, cond, List, Option, ◌==◌, slice_index}
 use Rattle.std.specs.Option.{option_or}
-use Rattle.faults.specs.Lists.{Rule, first_wrong}
+use Rattle.faults.specs.Lists.{Rule}
 use Rattle.faults.specs.declared.cause.Cause.{Cause}
 use Rattle.bounded_lists.specs.Lists.{bounded, limits, list_refusal}
 use Rattle.tariffs.specs.Questions.{boards_refusal}

@@ -1,4 +1,6 @@
 // The tariff of a price list.
+#![tactic(auto)]
+
 pub mod table;
 
 pub use table::Table;

@@ -14,4 +14,4 @@ invariant_of-result c =
     let k = neither (boards_refusal n) (list_refusal (price_rule n) xs) c.requires.legal in
     let b = boards_kept n k.0 in
     let l = legal_list (2 * (n * n)) (price_limit n) xs (list_kept (price_rule n) xs k.1) in
-    (b.0, (b.1, (l.0, (l.1, tt))))
+    record { least = b.0; most = b.1; sized = l.0; bounded = l.1 }
