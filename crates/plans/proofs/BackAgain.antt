@@ -1,12 +1,9 @@
 -- What is written of a plan is read as that plan.
-use Rattle.std.proofs.Common.{◌≡◌, ℕ, ◌-◌, ◌≤◌, List, ◌++◌, length, take, drop, IfOk, Some, None, Ok, Err, Result, sym, refl, ap, ◌∙◌, subst, arith}
-use native.Mathlib.Nat.{sub-zero}
+use Rattle.std.proofs.Common.{◌≡◌, ℕ, ◌-◌, ◌≤◌, List, ◌++◌, length, take, drop, IfOk, None, Ok, Err, Result, sym, ap, ◌∙◌, subst, arith}
 use Rattle.std.proofs.lemmas.List.{take_at}
 use Rattle.faults.specs.Answers.{Answers}
-use Rattle.faults.specs.declared.fault.Call.{Call}
 use Rattle.faults.specs.declared.fault.Call.TheVariants.{Read, Write}
 use Rattle.faults.specs.declared.fault.Fault.{Fault}
-use Rattle.faults.specs.declared.fault.Layer.{Layer}
 use Rattle.faults.specs.declared.fault.Layer.TheVariants.{Plans}
 use Rattle.plans.specs.Sheet.{SheetOf, Written, content, read_refusal, sheet, sheet_length, write_refusal}
 use Rattle.plans.specs.declared.plan.Plan.{Plan}

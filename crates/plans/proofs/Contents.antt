@@ -1,5 +1,5 @@
 -- Plans and what their sheets say.
-use Rattle.std.proofs.Common.{◌≡◌, List, ap}
+use Rattle.std.proofs.Common.{ap}
 use Rattle.plans.specs.Laws.{SheetsAreOne, SheetsReadBack}
 use Rattle.plans.specs.Sheet.{content}
 use Rattle.plans.specs.declared.plan.Plan.{Plan}

@@ -1,4 +1,6 @@
 // Plans, which name a board for each role and price both, and the sheets that they are written as.
+#![tactic(auto)]
+
 pub mod copying;
 pub mod echoing;
 pub mod laws;

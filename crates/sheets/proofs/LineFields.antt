@@ -1,10 +1,10 @@
 -- The fields of one line of a sheet, read one after the other.
-use Rattle.std.proofs.Common.{◌≡◌, ℕ, suc, ◌+◌, ◌-◌, ◌*◌, ◌<◌, ◌≤◌, Bool, true, false, cond, List, [], ◌∷◌, ◌++◌, length, take, drop, ℤ, pos, Some, None, Option, sym, refl, ap, ◌∙◌, subst, arith, take-add}
+use Rattle.std.proofs.Common.{◌≡◌, ℕ, ◌+◌, ◌-◌, ◌≤◌, true, List, [], ◌∷◌, ◌++◌, take, drop, pos, Some, None, sym, refl, ap, ◌∙◌, arith, take-add}
 use Rattle.std.proofs.lemmas.Slice.Eq.{bytes_eq-Decides}
 use Rattle.std.proofs.lemmas.List.{drop-drop}
 use Rattle.std.specs.Str.{bytes_eq}
 use Rattle.sheets.specs.Sheet.{first_illegal, line_fields, line_text, LegalLine, part, sheet_length, price_low, price_high, last_board}
-use Rattle.sheets.specs.Text.{reads, text, Reads, within}
+use Rattle.sheets.specs.Text.{reads, text, Reads}
 use Rattle.sheets.specs.declared.line.Line.{Line}
 use Rattle.sheets.proofs.Fields.{within_yes}
 

@@ -1,9 +1,8 @@
 -- The text of a number spells that number.
-use Rattle.std.proofs.Common.{◌≡◌, ℕ, zero, suc, ◌+◌, ◌-◌, ◌*◌, ◌/◌, ◌%◌, ◌^◌, ◌<◌, ◌≤◌, Bool, true, false, cond, ◌&&◌, ◌||◌, eqb, leb, ◌⊎◌, List, [], ◌∷◌, ◌++◌, length, replicate, ℤ, pos, negsuc, neg_ℤ, nat_abs, ◌≤ℤ◌, Some, None, decimal, Option, sym, refl, ap, ◌∙◌, subst, inl, inr, arith}
+use Rattle.std.proofs.Common.{◌≡◌, ℕ, zero, suc, ◌+◌, ◌-◌, ◌*◌, ◌/◌, ◌%◌, ◌^◌, ◌<◌, ◌≤◌, true, false, cond, ◌&&◌, ◌||◌, eqb, leb, List, [], ◌∷◌, ◌++◌, length, replicate, ℤ, pos, negsuc, nat_abs, ◌≤ℤ◌, Some, decimal, sym, refl, ap, ◌∙◌, inl, inr, arith}
 use Rattle.std.proofs.lemmas.Fmt.{decimal_by_steps}
 use Rattle.std.proofs.lemmas.Bool.{both_ways, cases_Bool, or_left, cond-true, and_from, le-leb, ne_eqb}
-use Rattle.std.specs.Fmt.{signed_decimal}
-use Rattle.sheets.specs.Text.{text, spelled, dashed, meant, reads, Reads, ReadsExactly}
+use Rattle.sheets.specs.Text.{text, spelled, dashed, meant, reads, ReadsExactly}
 use Rattle.sheets.proofs.Fields.{reads_found, reads_text}
 
 spelled_append : (xs ys : List ℕ) (acc : ℕ) → spelled acc (xs ++ ys) ≡ spelled (spelled acc xs) ys

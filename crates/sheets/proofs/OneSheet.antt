@@ -1,9 +1,9 @@
 -- A text is the sheet of one content at most.
 use base.Stored.{Coded-set}
 use mathlib.Core.HLevel.{is_prop→PathP, Π_prop, →_prop}
-use Rattle.std.proofs.Common.{◌≡◌, ℕ, zero, suc, ◌+◌, ◌-◌, ◌*◌, ◌^◌, ◌<◌, ◌≤◌, ◌⊎◌, List, [], ◌∷◌, ◌++◌, length, get_or, take, drop, ℤ, pos, nat_abs, sym, refl, ap, ◌∙◌, subst, inl, inr, arith}
+use Rattle.std.proofs.Common.{◌≡◌, ℕ, suc, ◌+◌, ◌^◌, ◌<◌, ◌≤◌, List, [], ◌∷◌, ◌++◌, length, get_or, take, drop, pos, sym, refl, ap, ◌∙◌, subst, inl, inr, arith}
 use native.Mathlib.Nat.{ℕ_set}
-use Rattle.std.proofs.lemmas.List.{take_at, drop_at, ext_get_or, get_or-take, length-take-le}
+use Rattle.std.proofs.lemmas.List.{take_at, drop_at, ext_get_or, get_or-take}
 use Rattle.std.proofs.lemmas.Bool.{cases_lt}
 use Rattle.sheets.specs.Lines.{blank}
 use Rattle.sheets.specs.Sheet.{Legal, LegalLine, SheetOf, first_line, line_text, lines_text, sheet}

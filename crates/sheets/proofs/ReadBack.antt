@@ -1,9 +1,8 @@
 -- The sheet of a legal plan is read.
-use Rattle.std.proofs.Common.{◌≡◌, ℕ, zero, suc, ◌+◌, ◌-◌, ◌*◌, ◌^◌, ◌<◌, ◌≤◌, Bool, true, false, List, [], ◌∷◌, ◌++◌, length, get_or, take, drop, ℤ, pos, nat_abs, ◌≤ℤ◌, Some, None, Option, sym, refl, ap, ◌∙◌, subst, append_assoc, arith, length-append}
+use Rattle.std.proofs.Common.{◌≡◌, ℕ, suc, ◌+◌, ◌-◌, ◌*◌, ◌^◌, ◌<◌, ◌≤◌, List, [], ◌∷◌, ◌++◌, length, get_or, take, drop, pos, nat_abs, None, sym, refl, ap, ◌∙◌, subst, append_assoc, arith, length-append}
 use Rattle.std.proofs.lemmas.Slice.Eq.{bytes_eq-Decides}
 use Rattle.std.proofs.lemmas.List.{take_at, drop_at, append-nil, get_or-take, length-take-le}
 use Rattle.std.proofs.lemmas.Int.{ints}
-use Rattle.std.specs.Str.{bytes_eq}
 use Rattle.sheets.specs.Lines.{blank}
 use Rattle.sheets.specs.Sheet.{Legal, LegalLine, bill_high, first_illegal, first_line, last_board, line_fields, line_text, lines_fields, lines_text, part, price_high, price_low, read_refusal, sheet, sheet_length}
 use Rattle.sheets.specs.Text.{reads, text}

@@ -1,14 +1,13 @@
 -- A whole sheet, read field by field.
-use Rattle.std.proofs.Common.{◌≡◌, ℕ, zero, suc, ◌+◌, ◌-◌, ◌*◌, ◌<◌, ◌≤◌, Bool, true, false, cond, List, [], ◌∷◌, ◌++◌, length, take, drop, ℤ, pos, negsuc, nat_abs, ◌≤ℤ◌, Some, None, Option, sym, refl, ap, ◌∙◌, subst, append_assoc, arith, length-drop, length-take, w64, to_z, of_z}
+use Rattle.std.proofs.Common.{◌≡◌, ℕ, ◌+◌, ◌*◌, ◌<◌, ◌≤◌, true, false, List, [], ◌∷◌, ◌++◌, length, take, drop, ℤ, pos, negsuc, nat_abs, ◌≤ℤ◌, Some, None, sym, refl, ap, ◌∙◌, arith, length-drop, length-take, w64, to_z, of_z}
 use Rattle.std.proofs.lemmas.Slice.Eq.{bytes_eq-Decides}
 use Rattle.std.proofs.lemmas.List.{take_all, drop_all}
 use Rattle.std.proofs.lemmas.Int.{ints, to_z_pos}
 use Rattle.std.specs.Str.{bytes_eq}
 use Rattle.faults.specs.declared.cause.Cause.{Cause}
 use Rattle.faults.specs.declared.cause.Cause.TheVariants.{Field}
-use Rattle.sheets.specs.Contents.{line_of}
-use Rattle.sheets.specs.Sheet.{bill_high, sheet, sheet_length, first_line, lines_text, Legal, LegalLine, SheetOf, LinesRead, part, first_illegal, fields, lines_fields, end_field, read_refusal}
-use Rattle.sheets.specs.Text.{reads, text, Reads}
+use Rattle.sheets.specs.Sheet.{bill_high, sheet, sheet_length, first_line, lines_text, LinesRead, part, first_illegal, fields, lines_fields, end_field, read_refusal}
+use Rattle.sheets.specs.Text.{reads, text}
 use Rattle.sheets.specs.declared.content.Content.{Content}
 use Rattle.sheets.proofs.Fields.{same_no}
 use Rattle.sheets.proofs.LineFields.{part_join}

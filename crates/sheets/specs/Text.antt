@@ -5,7 +5,7 @@
 --     reads w lo hi bs  the number from lo to hi whose text in w columns is bs, if there is one
 --     Reads w lo hi bs z    z is such a number
 --     ReadsExactly     reads finds such a number wherever there is one, and finds no other
-use Rattle.std.specs.Prelude.{◌≡◌, ℕ, ◌+◌, ◌-◌, ◌*◌, ◌^◌, ◌≤◌, Bool, true, false, cond, ◌&&◌, ◌||◌, List, [], ◌∷◌, ◌++◌, length, replicate, ℤ, pos, neg_ℤ, ◌≤ℤ◌, Some, None, Option, ◌==◌, int_le, nat_le, unsigned_abs}
+use Rattle.std.specs.Prelude.{◌≡◌, ℕ, ◌+◌, ◌-◌, ◌*◌, ◌^◌, ◌≤◌, Bool, false, cond, ◌&&◌, ◌||◌, List, [], ◌∷◌, ◌++◌, length, replicate, ℤ, pos, neg_ℤ, ◌≤ℤ◌, Some, None, Option, ◌==◌, int_le, nat_le, unsigned_abs}
 use Rattle.std.specs.Fmt.{signed_decimal}
 use Rattle.std.specs.Str.{bytes_eq}
 

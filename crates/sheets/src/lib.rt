@@ -1,4 +1,6 @@
 // The sheets that plans are written as: the reader and the writer.
+#![tactic(auto)]
+
 mod columns;
 pub mod content;
 mod field;

@@ -1,6 +1,5 @@
-use Rattle.std.proofs.Common.{◌≡◌, ◌^◌, ◌<◌, ◌≤◌, length, ℤ, pos, nat_abs, ◌≤ℤ◌, arith, w64, to_z}
-use Rattle.std.proofs.lemmas.Int.{ints, to_z_pos}
-use Rattle.std.specs.Fmt.{signed_decimal}
+use Rattle.std.proofs.Common.{◌≡◌, pos, arith, w64, to_z}
+use Rattle.std.proofs.lemmas.Int.{to_z_pos}
 use Rattle.sheets.proofs.Fields.{room_small}
 use Rattle.sheets.proofs.columns.small.Goals as goal
 

@@ -1,4 +1,4 @@
-use Rattle.std.proofs.Common.{◌≡◌, nat_abs, arith, w64, to_z, of_z}
+use Rattle.std.proofs.Common.{◌≡◌, arith, w64, to_z, of_z}
 use Rattle.std.proofs.lemmas.Int.{to_z-of_z}
 use Rattle.sheets.proofs.Fields.{room_wide}
 use Rattle.sheets.proofs.columns.wide.Goals as goal

@@ -1,6 +1,6 @@
-use Rattle.std.proofs.Common.{◌≡◌, ℕ, ◌+◌, ◌-◌, ◌%◌, ◌^◌, ◌<◌, ◌≤◌, List, ◌++◌, length, replicate, decimal, sym, refl, ap, ◌∙◌, arith}
+use Rattle.std.proofs.Common.{◌≡◌, ◌+◌, ◌-◌, ◌^◌, ◌<◌, ◌≤◌, ◌++◌, replicate, decimal, sym, refl, ◌∙◌, arith}
 use Rattle.std.proofs.lemmas.List.{length-set}
-use Rattle.sheets.proofs.Numerals.{front, decimal_last, blanks_more, digits_more, digits_all, place_all, room}
+use Rattle.sheets.proofs.Numerals.{decimal_last, blanks_more, digits_more, digits_all, place_all, room}
 use Rattle.sheets.proofs.numeral.digits.Goals as goal
 
 pub loop-rest-init : goal.loop-rest-init

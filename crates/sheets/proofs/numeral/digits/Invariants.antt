@@ -1,4 +1,4 @@
-use Rattle.std.proofs.Common.{◌≡◌, ◌+◌, ◌<◌, ◌≤◌, ◌++◌, length, take, drop, replicate, decimal}
+use Rattle.std.proofs.Common.{◌≡◌, ◌≤◌, ◌++◌, length, take, drop, replicate, decimal}
 use Rattle.sheets.proofs.Numerals.{front}
 use Rattle.sheets.proofs.numeral.digits.Given as goal
 

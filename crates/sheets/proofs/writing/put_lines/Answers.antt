@@ -1,4 +1,4 @@
-use Rattle.std.proofs.Common.{◌≡◌, ◌<◌, ◌≤◌, [], refl, arith}
+use Rattle.std.proofs.Common.{[], refl, arith}
 use Rattle.std.proofs.lemmas.List.Edits.{paste_none}
 use Rattle.sheets.proofs.Pasting.{lines_put}
 use Rattle.sheets.proofs.writing.put_lines.Goals as goal

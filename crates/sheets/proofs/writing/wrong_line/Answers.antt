@@ -1,4 +1,4 @@
-use Rattle.std.proofs.Common.{◌≡◌, sym, ◌∙◌, arith}
+use Rattle.std.proofs.Common.{◌∙◌, arith}
 use Rattle.sheets.proofs.Refusals.{wrong_found, wrong_later, wrong_none}
 use Rattle.sheets.proofs.writing.wrong_line.Goals as goal
 

@@ -1,10 +1,10 @@
-use Rattle.std.proofs.Common.{◌≡◌, refl, subst}
+use Rattle.std.proofs.Common.{refl, subst}
 use Rattle.sheets.specs.Sheet.{SheetOf}
 use Rattle.sheets.proofs.OneSheet.{same_content}
 use Rattle.plans.proofs.plan.Plan.read.Goals as goal
 
 pub invariant_of-result : goal.invariant_of-result
-invariant_of-result c = (c.in_ok-boards.field-0.sized, (c.in_ok-boards.field-0.rest, tt))
+invariant_of-result c = record { sized = c.in_ok-boards.field-0.sized; rest = c.in_ok-boards.field-0.rest }
 
 pub returns : goal.returns
 returns c =

@@ -1,4 +1,4 @@
-use Rattle.std.proofs.Common.{length, sym, arith}
+use Rattle.std.proofs.Common.{length, arith}
 use Rattle.plans.proofs.BackAgain.{front_is, back_again}
 use Rattle.plans.specs.Sheet.{content}
 use Rattle.sheets.proofs.Refusals.{legal_from_none}

@@ -8,7 +8,7 @@ use Rattle.sheets.proofs.OneSheet.{same_content}
 use Rattle.plans.proofs.plan.Plan.write.Goals as goal
 
 pub invariant_of-content : goal.invariant_of-content
-invariant_of-content c = (c.args.self.now.sized, (c.args.self.now.rest, tt))
+invariant_of-content c = record { sized = c.args.self.now.sized; rest = c.args.self.now.rest }
 
 pub returns : goal.returns
 returns c =

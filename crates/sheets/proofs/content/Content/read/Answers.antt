@@ -1,8 +1,7 @@
-use Rattle.std.proofs.Common.{◌≡◌, ℕ, ◌<◌, ◌≤◌, ℤ, pos, nat_abs, Some, sym, ap, ◌∙◌, subst, arith, w64, to_z, of_z}
+use Rattle.std.proofs.Common.{◌≤◌, nat_abs, Some, sym, ap, ◌∙◌, subst, arith, w64, to_z, of_z}
 use Rattle.std.proofs.lemmas.Result.{err_from_is_err_and}
-use Rattle.std.proofs.lemmas.Int.{ints}
 use Rattle.sheets.specs.Contents.{line_of}
-use Rattle.sheets.specs.Sheet.{Legal, LegalLine, SheetOf, read_refusal}
+use Rattle.sheets.specs.Sheet.{Legal, LegalLine}
 use Rattle.sheets.proofs.SheetRead.{count_fails, bill_fails, end_fails, lines_fail, rest_fails, all_stand, bytes_are, bill_natural}
 use Rattle.sheets.proofs.content.Content.read.Goals as goal
 

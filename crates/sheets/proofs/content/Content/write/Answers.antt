@@ -1,5 +1,4 @@
-use Rattle.std.proofs.Common.{◌≡◌, ◌≤◌, length, sym, refl, ap, ◌∙◌, arith}
-use Rattle.sheets.specs.Sheet.{Legal, sheet_length}
+use Rattle.std.proofs.Common.{length, sym, refl, arith}
 use Rattle.sheets.proofs.Pasting.{sheet_put}
 use Rattle.sheets.proofs.Refusals.{legal_from_none}
 use Rattle.sheets.proofs.content.Content.write.Goals as goal
