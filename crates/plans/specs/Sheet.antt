@@ -1,32 +1,47 @@
--- The sheet that a plan is written as, by what it says. Assumes nothing.
---     content p           what the sheet of plan p says: the plan's own count, bill and lines
---     sheet p             the text of plan p
+-- The sheet that a plan is written as, and when writing it is refused. Assumes nothing.
+--     sheet p             the text of plan p: n and the bill, then a line for each number x below n
 --     Legal p             every number of p is in its limits: such plans have a sheet
---     SheetOf p bs       the relation between a legal plan and its text
---     write_refusal p k   why p is not written to a buffer of k bytes
+--     SheetOf p bs        the relation between a legal plan and its text
+--     write_refusal p k   why p is not written to a buffer of k bytes: 2, then 11, then 16 for the first number beyond its limits
 --     Written p before k after    k bytes of the buffer hold the sheet of p now, and the rest is as it was
--- The sheets themselves, and when reading one is refused, are defined in the crate of sheets.
-use Rattle.std.specs.Prelude.{ℕ, List, Option}
+--     content p           what the sheet of plan p says: the plan's own count, bill and lines
+-- The limits, the text of a line, and when reading a sheet is refused, are defined in the crate of sheets.
+use Rattle.std.specs.Prelude.{◌≡◌, ℕ, ◌<◌, ◌≤◌, cond, ◌&&◌, List, ◌++◌, take, drop, Some, Option, nat_le}
 use Rattle.faults.specs.declared.cause.Cause.{Cause}
+use Rattle.faults.specs.declared.cause.Cause.TheVariants.{Board, Length, Field}
+use Rattle.plans.specs.Plans.{line_of}
 use Rattle.plans.specs.declared.plan.Plan.{Plan}
 use Rattle.sheets.specs.declared.content.Content.{Content}
-use Rattle.sheets.specs.Sheet as sheets
+use Rattle.sheets.specs.Sheet.{LegalLine, first_line, lines_text, wrong_line}
 pub use Rattle.sheets.specs.Sheet.{read_refusal, sheet_length}
+
+unfoldable pub sheet : Plan → List ℕ
+sheet p = first_line p.boards p.bill ++ lines_text 0 (take p.boards p.lines)
+
+pub record Legal (p : Plan) : Type 0 where
+  pub some : 1 ≤ p.boards
+  pub few : p.boards ≤ 16
+  pub bill : p.bill ≤ 281474976710656
+  pub lines : (x : ℕ) → x < p.boards → LegalLine p.boards (line_of p x)
+
+pub record SheetOf (p : Plan) (bs : List ℕ) : Type 0 where
+  pub legal : Legal p
+  pub is : bs ≡ sheet p
+
+abbrev pub wrong_number : Plan → Option Cause
+wrong_number p = cond (nat_le p.bill 281474976710656) (wrong_line p.boards 0 (take p.boards p.lines)) (Some (Field 1 5))
+
+unfoldable pub write_refusal : Plan → ℕ → Option Cause
+write_refusal p k =
+    cond (nat_le 1 p.boards && nat_le p.boards 16)
+    (cond (nat_le (sheet_length p.boards) k) (wrong_number p) (Some (Length (sheet_length p.boards))))
+    (Some (Board p.boards))
+
+-- k bytes of the buffer hold the sheet of p now, and the rest is as it was
+pub record Written (p : Plan) (before : List ℕ) (k : ℕ) (after : List ℕ) : Type 0 where
+  pub legal : Legal p
+  pub len : k ≡ sheet_length p.boards
+  pub is : after ≡ sheet p ++ drop k before
 
 abbrev pub content : Plan → Content
 content p = record { boards = p.boards; bill = p.bill; lines = p.lines; sized = p.sized; rest = p.rest }
-
-abbrev pub sheet : Plan → List ℕ
-sheet p = sheets.sheet (content p)
-
-abbrev pub Legal : Plan → Type 0
-Legal p = sheets.Legal (content p)
-
-abbrev pub SheetOf : Plan → List ℕ → Type 0
-SheetOf p bs = sheets.SheetOf (content p) bs
-
-abbrev pub write_refusal : Plan → ℕ → Option Cause
-write_refusal p k = sheets.write_refusal (content p) k
-
-abbrev pub Written : Plan → List ℕ → ℕ → List ℕ → Type 0
-Written p before k after = sheets.Written (content p) before k after
