@@ -1,8 +1,8 @@
 -- The law of wrong lists, by induction on the list, for any index and entry before it.
-use Rattle.std.proofs.Common.{◌≡◌, ℕ, zero, suc, ◌+◌, ◌<◌, ◌≤◌, Bool, true, false, cond, ◌⊎◌, List, [], ◌∷◌, Some, None, Option, sym, refl, ap, ◌∙◌, subst, inl, inr, arith}
+use Rattle.std.proofs.Common.{◌≡◌, ℕ, zero, suc, ◌+◌, ◌<◌, true, false, List, [], ◌∷◌, Some, None, Option, sym, refl, ap, ◌∙◌, subst, inl, inr, arith}
 use Rattle.std.proofs.lemmas.Bool.{cases_Bool}
 use Rattle.std.specs.List.{slice_get}
-use Rattle.wrong_lists.specs.Lists.{Rule, wrong_from, first_wrong, Legal, Agree, WrongAt, Completes, WrongLists}
+use Rattle.wrong_lists.specs.Lists.{Rule, wrong_from, Agree, Completes, WrongLists}
 
 -- what the law says of a list from index k on, its wrong index being k + d
 record Wrong (may : Rule) (k : ℕ) (before : Option ℕ) (xs : List ℕ) (d : ℕ) : Type 0 where
