@@ -1,4 +1,6 @@
 // Reads a plan sheet on standard input and writes it back, or the refusal's number, line and column.
+#![tactic(auto)]
+
 ghost use Rattle.std.specs.Prelude.{◌≤◌, IfOk};
 
 use faults::{Cause, Fault};
