@@ -21,7 +21,7 @@ pub struct Charges {
 impl Charges {
     // The charges of `list`, which has one for each board of the tariff that they are laid on.
     pub fn new<T: Tariff>(inner: &T, list: &[u32]) -> Result<Charges, Fault>
-        ensures answer { Answers Layer.Tariffs Call.Make (list_refusal (charge_rule (boards inner.now)) list.now) result (λ c. c.table ≡ charge_table (boards inner.now) list.now) (Unit {0}) }
+        ensures answer { Answers Layer.Tariffs Call.Make (list_refusal (charge_rule (T.Tariff.boards inner.now)) list.now) result (λ c. c.table ≡ charge_table (T.Tariff.boards inner.now) list.now) (Unit {0}) }
     {
         charged(inner.board_count(), list)
     }

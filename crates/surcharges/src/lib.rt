@@ -1,4 +1,6 @@
 // The surcharge over another tariff, and its charges.
+#![tactic(auto)]
+
 pub mod charges;
 pub mod surcharge;
 

@@ -1,4 +1,4 @@
-use Rattle.std.proofs.Common.{◌≡◌, ℕ, ◌-◌, ◌≤◌, length, get_or, sym, ap, ◌∙◌, subst, arith}
+use Rattle.std.proofs.Common.{◌-◌, ◌≤◌, length, get_or, sym, ap, ◌∙◌, subst, arith}
 use Rattle.surcharges.specs.Surcharges.{charge_table}
 use Rattle.surcharges.proofs.ChargeTables.{charges_kept, length-charge_table, append_bound}
 use Rattle.surcharges.proofs.charges.charged.Goals as goal
@@ -11,7 +11,10 @@ invariant_of-result c =
     let xs = c.args.list.now in
     let k = charges_kept c.args.boards xs c.in_ok-check_charges.ensures.answer.0 in
     let e = c.filled.ensures.table in
-    (ap length e ∙ length-charge_table xs (omega (arith, k.0, c.requires.few)), (λ i. subst (λ t. get_or t i 0 ≤ 1000) (sym e) (append_bound xs (16 - length xs) k.1 i), tt))
+    record {
+      sized = ap length e ∙ length-charge_table xs (omega (arith, k.0, c.requires.few));
+      bounded = λ i. subst (λ t. get_or t i 0 ≤ 1000) (sym e) (append_bound xs (16 - length xs) k.1 i);
+    }
 
 pub returns : goal.returns
 returns c =

@@ -1,4 +1,4 @@
-use Rattle.std.proofs.Common.{◌≡◌, ℕ, ◌-◌, ◌++◌, length, drop, replicate, ap, ◌∙◌, subst}
+use Rattle.std.proofs.Common.{◌-◌, ◌++◌, length, drop, replicate, ap, ◌∙◌}
 use native.Mathlib.Nat.{sub-zero}
 use Rattle.surcharges.proofs.ChargeTables.{table_from}
 use Rattle.surcharges.proofs.charges.filled.Goals as goal
