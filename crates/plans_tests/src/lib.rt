@@ -1,3 +1,5 @@
+#![tactic(auto)]
+
 // Tests of plans and their sheets, at each limit from both sides.
 #[cfg(test)]
 mod tests;
