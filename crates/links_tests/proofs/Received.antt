@@ -1,12 +1,11 @@
 -- A frame put to a quiet link is accepted, and is what a look then gives.
-use Rattle.std.proofs.Common.{◌≡◌, ℕ, ◌<◌, ◌≤◌, Bool, true, false, eqb, List, [], ◌∷◌, ◌++◌, length, drop, Some, None, Ok, Err, Option, Result, sym, refl, ap, ◌∙◌, subst, arith}
+use Rattle.std.proofs.Common.{◌≡◌, ℕ, ◌<◌, ◌≤◌, eqb, List, [], ◌∷◌, ◌++◌, length, drop, Some, None, Ok, Err, Option, Result, refl, ap, ◌∙◌, arith}
 use Rattle.std.proofs.lemmas.Bool.{eq-eqb, cond-true}
 use Rattle.faults.specs.declared.cause.Cause.{Cause}
 use Rattle.faults.specs.declared.fault.Fault.{Fault}
-use Rattle.links.proofs.Refused.{put_open, look_some}
-use Rattle.links.specs.Calls.{Put, PutDone, Look, LookDone}
-use Rattle.links.specs.Frames.{Frame, none_waits, oldest, appended, most_words}
-use Rattle.links.specs.Refusals.{put_refusal}
+use Rattle.links.proofs.Refused.{look_some}
+use Rattle.links.specs.Calls.{PutDone, Look}
+use Rattle.links.specs.Frames.{none_waits, oldest, most_words}
 
 pub not_both : (o : Option Cause) (w : Cause) → o ≡ None → o ≡ Some w → ⊥
 not_both o w p q = let z : ◌≡◌ {A = ℕ} 0 1 = cc in omega arith

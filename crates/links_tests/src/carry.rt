@@ -12,7 +12,7 @@ pub(crate) fn put_and_look<L: Link>(
     frame: &[u32],
     buffer: &mut [u32],
 ) -> Result<usize, Fault>
-    ensures { Carried boards waiting link.old board frame.now buffer.old result buffer.new }
+    ensures { Carried L.boards L.waiting link.old board frame.now buffer.old result buffer.new }
 {
     link.put(board, frame)?;
     link.look(board, buffer)

@@ -1,4 +1,6 @@
 // Code over any link, and tests of the links against a plain model.
+#![tactic(auto)]
+
 pub mod carry;
 #[cfg(test)]
 mod model;

@@ -156,6 +156,7 @@ fn a_link_is_made_within_its_limits(rt: HostRuntime) -> Result<(), Fail> {
 
 // A put of the frame of a number, on a link for 4 boards and on the model.
 fn put_both<L: Link>(
+    rt: &impl Abort,
     link: &mut L,
     kind: Kind,
     sent: &mut Vec<Sent>,
@@ -165,77 +166,86 @@ fn put_both<L: Link>(
     let words = words_of(number);
     let answer = link.put(board, &words[0..frame_len(number)]);
     if board >= 4 {
-        assert_eq!(
+        assert_eq!(rt;
             answer,
             Err(fault(Call::Put, Cause::Board { number: board }))
         );
         return Ok(());
     }
     if !is_open(kind, sent, board) {
-        assert_eq!(answer, Err(fault(Call::Put, Cause::Closed { board })));
+        assert_eq!(rt; answer, Err(fault(Call::Put, Cause::Closed { board })));
         return Ok(());
     }
     sent.push(Sent { board, number })?;
-    assert_eq!(answer, Ok(()));
+    assert_eq!(rt; answer, Ok(()));
     Ok(())
 }
 
 // A look and a drop, on a link for 4 boards and on the model.
-fn drop_both<L: Link>(link: &mut L, sent: &mut Vec<Sent>, board: usize) -> Result<(), Fail> {
+fn drop_both<L: Link>(
+    rt: &impl Abort,
+    link: &mut L,
+    sent: &mut Vec<Sent>,
+    board: usize,
+) -> Result<(), Fail> {
     let mut buffer = [9; 64];
     let seen = link.look(board, &mut buffer);
     let answer = link.discard(board);
     let place = oldest(sent, board);
     if board >= 4 {
-        assert_eq!(
+        assert_eq!(rt;
             answer,
             Err(fault(Call::Drop, Cause::Board { number: board }))
         );
         return Ok(());
     }
     let Some(at) = place else {
-        assert_eq!(seen, Err(fault(Call::Look, Cause::Nothing { board })));
-        assert_eq!(answer, Err(fault(Call::Drop, Cause::Nothing { board })));
+        assert_eq!(rt; seen, Err(fault(Call::Look, Cause::Nothing { board })));
+        assert_eq!(rt; answer, Err(fault(Call::Drop, Cause::Nothing { board })));
         return Ok(());
     };
-    assert!(at < sent.len());
+    assert!(rt; at < sent.len());
     let first = sent.remove(at);
     let len = frame_len(first.number);
-    assert_eq!(seen, Ok(len));
+    assert_eq!(rt; seen, Ok(len));
     for (i, w) in buffer.iter().enumerate() {
         let due = if i < len { word(first.number, i) } else { 9 };
-        assert_eq!(*w, due);
+        assert_eq!(rt; *w, due);
     }
-    assert_eq!(answer, Ok(()));
+    assert_eq!(rt; answer, Ok(()));
     Ok(())
 }
 
 // A thousand puts and drops at random, and then drops until nothing is left.
-fn follows_the_model<L: Link>(rt: HostRuntime, link: &mut L, kind: Kind) -> Result<(), Fail> {
+fn follows_the_model<L: Link>(
+    rt: &(impl Abort + AllocGlobal),
+    link: &mut L,
+    kind: Kind,
+) -> Result<(), Fail> {
     let mut sent = Vec::new(rt.alloc());
     let mut x: u32 = 2026;
     for number in 0..1000 {
         x = x.wrapping_mul(1664525).wrapping_add(1013904223);
         let board = ((x >> 16) % 5) as usize;
         if x >> 30 < 2 {
-            put_both(link, kind, &mut sent, number, board)?;
+            put_both(rt, link, kind, &mut sent, number, board)?;
         } else {
-            drop_both(link, &mut sent, board)?;
+            drop_both(rt, link, &mut sent, board)?;
         }
     }
     for board in 0..4 {
         for _ in 0..200 {
-            drop_both(link, &mut sent, board)?;
+            drop_both(rt, link, &mut sent, board)?;
         }
     }
-    assert!(sent.is_empty());
+    assert!(rt; sent.is_empty());
     Ok(())
 }
 
 #[test]
 fn a_bus_follows_the_model(rt: HostRuntime) -> Result<(), Fail> {
     let mut link = bus(rt, 4, 500)?;
-    follows_the_model(rt, &mut link, Kind::Bus { words: 500 })?;
+    follows_the_model(&rt, &mut link, Kind::Bus { words: 500 })?;
     assert_eq!(rt; link.room(), 500);
     Ok(())
 }
@@ -243,5 +253,5 @@ fn a_bus_follows_the_model(rt: HostRuntime) -> Result<(), Fail> {
 #[test]
 fn a_crossbar_follows_the_model(rt: HostRuntime) -> Result<(), Fail> {
     let mut link = Crossbar::new(4)?;
-    follows_the_model(rt, &mut link, Kind::Crossbar)
+    follows_the_model(&rt, &mut link, Kind::Crossbar)
 }
