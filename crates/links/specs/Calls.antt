@@ -6,9 +6,7 @@
 -- Look and Drop are the receiving side, and say nothing of openness.
 use Rattle.std.specs.Prelude.{◌≡◌, ℕ, Bool, List, ◌++◌, length, drop, Result}
 use Rattle.faults.specs.Answers.{Answers}
-use Rattle.faults.specs.declared.fault.Call.{Call}
 use Rattle.faults.specs.declared.fault.Fault.{Fault}
-use Rattle.faults.specs.declared.fault.Layer.{Layer}
 use Rattle.faults.specs.declared.fault.Call.TheVariants as call
 use Rattle.faults.specs.declared.fault.Layer.TheVariants as layer
 use Rattle.links.specs.Frames.{Frame, oldest, appended, removed}

@@ -1,4 +1,6 @@
 // What carries frames between the boards: the trait of every link.
+#![tactic(auto)]
+
 pub mod link;
 pub mod refusal;
 
