@@ -6,7 +6,7 @@
 --     word_product a b     the product
 --     word_words a         its words
 --     word_back ws         the element of the words ws
-use Rattle.std.specs.Prelude.{ℕ, ◌*◌, ◌%◌, ◌<◌, List, [], ◌∷◌, slice_index}
+use Rattle.std.specs.Prelude.{ℕ, ◌*◌, ◌%◌, List, [], ◌∷◌, slice_index}
 use Rattle.std.proofs.Common.{lit<}
 use Rattle.std.proofs.lemmas.Nat.{mod_below}
 use Rattle.elements.specs.declared.word.Word.{Word}

@@ -1,4 +1,6 @@
 // What a matrix holds: the kinds of elements, and the trait that each of them meets.
+#![tactic(auto)]
+
 pub mod element;
 pub mod pair;
 pub mod pairs;
