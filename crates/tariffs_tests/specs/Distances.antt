@@ -2,7 +2,7 @@
 --     distance q           the number of boards on the way
 --     distance_price q     the price of q
 --     distance_laws n      the laws of tariffs, for n boards; a proof, which the trait's ghost member cites
-use Rattle.std.specs.Prelude.{◌≡◌, ℕ, ◌+◌, ◌-◌, ◌*◌, ◌<◌, ◌≤◌, None, refl}
+use Rattle.std.specs.Prelude.{◌≡◌, ℕ, ◌+◌, ◌-◌, ◌*◌, ◌≤◌, None}
 use Rattle.std.proofs.Common.{ap, ◌∙◌, mul-zero, arith}
 use Rattle.std.proofs.lemmas.Nat.{mul-le}
 use Rattle.tariffs.specs.Asked.{asked}
