@@ -1,4 +1,6 @@
 // What moving a package costs: the trait that every tariff meets, what a tariff is asked, and the plain tariff.
+#![tactic(auto)]
+
 pub mod check;
 pub mod limits;
 pub mod plain;
