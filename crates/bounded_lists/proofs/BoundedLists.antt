@@ -4,7 +4,7 @@ use Rattle.std.proofs.lemmas.List.{at_drop_more, at_drop_all}
 use Rattle.std.proofs.lemmas.Bool.{and_from, and_parts, and_left, and_right, ltb-true, leb-true, eqb-true, lt-ltb, le-ltb, le-leb, lt-leb, eq-eqb, ne_eqb, cond-true, cond-false}
 use Rattle.faults.proofs.WrongLists.{wrong_lists}
 use Rattle.faults.specs.Lists.{wrong_from, first_wrong, Completes}
-use Rattle.bounded_lists.specs.Lists.{bounded, limits, BoundedLists}
+use Rattle.bounded_lists.specs.Lists.{bounded, BoundedLists}
 
 module _ (len : ℕ) (limit : ℕ → ℕ) where
   -- what stood before makes no difference
