@@ -1,6 +1,6 @@
 -- The law of least bills.
-use Rattle.std.proofs.Common.{◌≡◌, ℕ, ◌+◌, ◌<◌, ◌≤◌, sym, ◌∙◌, arith}
-use Rattle.assignment_laws.specs.Namings.{total, Permutation, bill_of, Least, Feasible, Tight, LeastBills}
+use Rattle.std.proofs.Common.{◌≡◌, ◌+◌, ◌≤◌, arith}
+use Rattle.assignment_laws.specs.Namings.{total, LeastBills}
 use Rattle.assignment_laws.proofs.Totals.{total_same, total_le, total_add, total_permuted}
 
 pub least_bills : LeastBills

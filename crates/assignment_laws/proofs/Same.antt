@@ -1,7 +1,7 @@
 -- Costs and proposals that agree below n are judged alike.
-use Rattle.std.proofs.Common.{◌≡◌, ℕ, zero, suc, ◌+◌, ◌<◌, ◌≤◌, Bool, true, false, cond, ◌||◌, eqb, leb, ℤ, pos, ◌+ℤ◌, ◌≤ℤ◌, Some, None, Option, sym, refl, ap, ◌∙◌, arith}
+use Rattle.std.proofs.Common.{◌≡◌, ℕ, zero, suc, ◌<◌, Bool, cond, ◌||◌, eqb, leb, pos, ◌+ℤ◌, Some, None, Option, sym, refl, ap, ◌∙◌, arith}
 use lib.Signed.{lt_z}
-use Rattle.assignment_laws.specs.Namings.{Permutation, bill_of, Least}
+use Rattle.assignment_laws.specs.Namings.{bill_of, Least}
 use Rattle.assignment_laws.specs.Judging.{Proposal, Certified, first_of, first_below, any_below, misnamed, beyond, unpriced, unfit, unfair, wrong_bill, wrong_role}
 use Rattle.assignment_laws.proofs.Certificates.{fit_permute}
 use Rattle.assignment_laws.proofs.Totals.{total_same}

@@ -1,7 +1,7 @@
 -- The two small tables, by their two namings.
-use Rattle.std.proofs.Common.{◌≡◌, ℕ, ◌+◌, ◌-◌, ◌<◌, ◌≤◌, ◌⊎◌, sym, refl, ap, ◌∙◌, subst, inl, inr, arith}
+use Rattle.std.proofs.Common.{◌≡◌, ℕ, ◌+◌, ◌≤◌, sym, refl, ap, ◌∙◌, inl, inr, arith}
 use Rattle.std.proofs.lemmas.Bool.{cases_eq}
-use Rattle.assignment_laws.specs.Namings.{total, Permutation, bill_of, Least}
+use Rattle.assignment_laws.specs.Namings.{Permutation, bill_of}
 use Rattle.assignment_laws.specs.Small.{two, own, exchanged, CheapestFirst, Exchange}
 
 module _ (a b c d : ℕ) (σ : ℕ → ℕ) (p : Permutation 2 σ) where
