@@ -1,5 +1,5 @@
 -- Plans and assignments are judged alike, and the bills of certified plans are the sums of the recorded prices.
-use Rattle.std.proofs.Common.{◌≡◌, ℕ, ◌<◌, Bool, eqb, ◌⊎◌, List, Some, None, Option, sym, ap, ◌∙◌, subst, inl, inr, arith}
+use Rattle.std.proofs.Common.{◌≡◌, ℕ, ◌<◌, Bool, eqb, List, Some, None, Option, sym, ap, ◌∙◌, subst, inl, inr, arith}
 use Rattle.std.proofs.lemmas.Bool.{cases_Bool, cond-false, eqb-true}
 use Rattle.std.specs.Option.{option_map, option_or}
 use Rattle.assignment.proofs.Proposals.{to_proposal}

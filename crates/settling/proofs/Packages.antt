@@ -1,5 +1,5 @@
 -- Packages and their prices.
-use Rattle.std.proofs.Common.{◌≡◌, ℕ, ◌+◌, ◌*◌, ◌<◌, ◌≤◌, Bool, true, cond, ltb, leb, Some, None, Option, refl, ap, ◌∙◌, mul-le-mul, arith}
+use Rattle.std.proofs.Common.{◌≡◌, ℕ, ◌<◌, ◌≤◌, Bool, ltb, leb, Some, None, ◌∙◌, mul-le-mul, arith}
 use Rattle.std.proofs.lemmas.Bool.{cond-true, lt-ltb, le-leb}
 use Rattle.drawings.specs.Drawings.{package_of}
 use Rattle.drawings.specs.declared.drawing.Drawing.{Drawing}

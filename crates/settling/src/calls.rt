@@ -25,11 +25,11 @@ fn recorded<E: Element, T: Tariff>(
     transformed: bool,
     plan: Plan,
 ) -> Settlement
-    requires count { boards tariff.now ≡ drawing.now.target.boards }
+    requires count { T.boards tariff.now ≡ drawing.now.target.boards }
     requires plan { plan.boards ≡ drawing.now.target.boards }
-    requires certified { Certified (cost_of (cost tariff.now) drawing.now width transformed) drawing.now.target.boards (proposed plan) }
+    requires certified { Certified (cost_of (T.cost tariff.now) drawing.now E.width transformed) drawing.now.target.boards (proposed plan) }
     ensures plan { result.plan ≡ plan }
-    ensures settles { Settles (cost tariff.now) drawing.now width transformed result }
+    ensures settles { Settles (T.cost tariff.now) drawing.now E.width transformed result }
 {
     let prices = prices_under::<E, T>(drawing, tariff, transformed, &plan);
     Settlement { plan, prices }
@@ -41,7 +41,7 @@ pub fn settle<E: Element, T: Tariff>(
     alpha: E,
     tariff: &T,
 ) -> Result<Settlement, Fault>
-    ensures { (t : Bool) × Marked drawing.now.operation (alpha ≡ unit) t × Answers Layer.Book Call.Settle (count_refusal drawing.now (boards tariff.now)) result (Settles (cost tariff.now) drawing.now width t) (Unit {0}) }
+    ensures { (t : Bool) × Marked drawing.now.operation (alpha ≡ E.unit) t × Answers Layer.Book Call.Settle (count_refusal drawing.now (T.boards tariff.now)) result (Settles (T.cost tariff.now) drawing.now E.width t) (Unit {0}) }
 {
     let transformed = is_transformed(drawing, alpha);
     if let Some(cause) = count_cause(drawing, tariff.board_count()) {
@@ -59,7 +59,7 @@ pub fn adopt<E: Element, T: Tariff>(
     tariff: &T,
     plan: &Plan,
 ) -> Result<Settlement, Fault>
-    ensures { (t : Bool) × Marked drawing.now.operation (alpha ≡ unit) t × Answers Layer.Book Call.Adopt (adopt_refusal (cost tariff.now) drawing.now width t (boards tariff.now) plan.now) result (λ s. (s.plan ≡ plan.now) × Settles (cost tariff.now) drawing.now width t s) (Unit {0}) }
+    ensures { (t : Bool) × Marked drawing.now.operation (alpha ≡ E.unit) t × Answers Layer.Book Call.Adopt (adopt_refusal (T.cost tariff.now) drawing.now E.width t (T.boards tariff.now) plan.now) result (λ s. (s.plan ≡ plan.now) × Settles (T.cost tariff.now) drawing.now E.width t s) (Unit {0}) }
 {
     let transformed = is_transformed(drawing, alpha);
     if let Some(cause) = count_cause(drawing, tariff.board_count()) {

@@ -21,9 +21,9 @@ fn fill_row<T: Tariff>(
     transformed: bool,
 )
     requires role_lt_boards { role < costs.old.boards }
-    requires tariff_value { boards tariff.now ≡ costs.old.boards }
+    requires tariff_value { T.boards tariff.now ≡ costs.old.boards }
     requires by_index { (i : ℕ) → slice_index packages.now i ≤ most_bytes }
-    ensures { RowFilled (cost tariff.now) packages.now transformed role costs.old costs.new }
+    ensures { RowFilled (T.cost tariff.now) packages.now transformed role costs.old costs.new }
 {
     for board in 0..tariff.board_count() {
         let cost = pair_cost(tariff, packages, board, transformed);
@@ -40,8 +40,8 @@ pub(crate) fn table_of<E: Element, T: Tariff>(
     tariff: &T,
     transformed: bool,
 ) -> Costs
-    requires { boards tariff.now ≡ drawing.now.target.boards }
-    ensures { Costed (cost tariff.now) drawing.now width transformed result }
+    requires { T.boards tariff.now ≡ drawing.now.target.boards }
+    ensures { Costed (T.cost tariff.now) drawing.now E.width transformed result }
 {
     let boards = tariff.board_count();
     let mut costs = match Costs::zero(boards) {
@@ -62,7 +62,7 @@ pub fn costs<E: Element, T: Tariff>(
     alpha: E,
     tariff: &T,
 ) -> Result<Costs, Fault>
-    ensures { (t : Bool) × Marked drawing.now.operation (alpha ≡ unit) t × Answers Layer.Book call (count_refusal drawing.now (boards tariff.now)) result (Costed (cost tariff.now) drawing.now width t) (Unit {0}) }
+    ensures { (t : Bool) × Marked drawing.now.operation (alpha ≡ E.unit) t × Answers Layer.Book call (count_refusal drawing.now (T.boards tariff.now)) result (Costed (T.cost tariff.now) drawing.now E.width t) (Unit {0}) }
 {
     let transformed = is_transformed(drawing, alpha);
     if let Some(cause) = count_cause(drawing, tariff.board_count()) {

@@ -14,7 +14,7 @@ use tariffs::{Question, Tariff};
 
 // Whether the packages are transformed on their way.
 pub(crate) fn is_transformed<E: Element>(drawing: &Drawing, alpha: E) -> bool
-    ensures { Marked drawing.now.operation (alpha ≡ unit) result }
+    ensures { Marked drawing.now.operation (alpha ≡ E.unit) result }
 {
     match drawing.operation {
         Operation::Identity => !alpha.is_one(),
@@ -27,7 +27,7 @@ pub(crate) fn is_transformed<E: Element>(drawing: &Drawing, alpha: E) -> bool
 pub(crate) fn packages_for<E: Element>(drawing: &Drawing, role: usize) -> [usize; 16]
     requires { role < drawing.now.target.boards }
     ensures len { length result ≡ 16 }
-    ensures items { (i : ℕ) → i < drawing.now.target.boards → slice_index result i ≡ bytes (package_of drawing.now i role) width }
+    ensures items { (i : ℕ) → i < drawing.now.target.boards → slice_index result i ≡ bytes (package_of drawing.now i role) E.width }
     ensures capped { (i : ℕ) → slice_index result i ≤ most_bytes }
 {
     let words = E::size() as u8;
@@ -43,8 +43,8 @@ pub(crate) fn packages_for<E: Element>(drawing: &Drawing, role: usize) -> [usize
 
 // What the tariff asks for a package that it has a price for.
 pub(crate) fn price_of<T: Tariff>(tariff: &T, question: Question) -> u64
-    requires { ask_refusal (boards tariff.now) question ≡ None }
-    ensures value { result ≡ cost tariff.now question }
+    requires { ask_refusal (T.boards tariff.now) question ≡ None }
+    ensures value { result ≡ T.cost tariff.now question }
     ensures capped { result ≤ highest_price }
 {
     match tariff.price(question) {
@@ -60,9 +60,9 @@ pub(crate) fn pair_cost<T: Tariff>(
     receiver: usize,
     transformed: bool,
 ) -> u64
-    requires receiver_bound { receiver < boards tariff.now }
+    requires receiver_bound { receiver < T.boards tariff.now }
     requires by_index { (i : ℕ) → slice_index packages.now i ≤ most_bytes }
-    ensures value { result ≡ total (λ i. cost tariff.now (asked i receiver (slice_index packages.now i) transformed)) (boards tariff.now) }
+    ensures value { result ≡ total (λ i. T.cost tariff.now (asked i receiver (slice_index packages.now i) transformed)) (T.boards tariff.now) }
     ensures capped { result ≤ 2 ^ 44 }
 {
     let mut sum = 0;

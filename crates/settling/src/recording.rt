@@ -19,10 +19,10 @@ fn fill_column<T: Tariff>(
     receiver: usize,
     transformed: bool,
 )
-    requires role_bound { role < boards tariff.now }
-    requires receiver_bound { receiver < boards tariff.now }
+    requires role_bound { role < T.boards tariff.now }
+    requires receiver_bound { receiver < T.boards tariff.now }
     requires by_index { (i : ℕ) → slice_index packages.now i ≤ most_bytes }
-    ensures { ColumnFilled (cost tariff.now) (boards tariff.now) packages.now transformed role receiver prices.old prices.new }
+    ensures { ColumnFilled (T.cost tariff.now) (T.boards tariff.now) packages.now transformed role receiver prices.old prices.new }
 {
     for sender in 0..tariff.board_count() {
         prices[sender * 16 + role] = price_of(
@@ -44,12 +44,12 @@ pub(crate) fn prices_under<E: Element, T: Tariff>(
     transformed: bool,
     plan: &Plan,
 ) -> [u64; 256]
-    requires count { boards tariff.now ≡ drawing.now.target.boards }
+    requires count { T.boards tariff.now ≡ drawing.now.target.boards }
     requires plan { plan.now.boards ≡ drawing.now.target.boards }
     requires names { (x : ℕ) → x < plan.now.boards → name_in plan.now x < plan.now.boards }
     ensures len { length result ≡ 256 }
     ensures past { BlankPast drawing.now.target.boards result }
-    ensures items { (i x : ℕ) → i < drawing.now.target.boards → x < drawing.now.target.boards → price_at result i x ≡ cost tariff.now (question drawing.now width transformed i x (name_in plan.now x)) }
+    ensures items { (i x : ℕ) → i < drawing.now.target.boards → x < drawing.now.target.boards → price_at result i x ≡ T.cost tariff.now (question drawing.now E.width transformed i x (name_in plan.now x)) }
 {
     let mut prices = [0; 256];
     for role in 0..plan.boards {

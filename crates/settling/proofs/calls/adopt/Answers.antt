@@ -1,4 +1,4 @@
-use Rattle.std.proofs.Common.{◌≡◌, ℕ, ◌<◌, Some, sym, ap, ◌∙◌, arith}
+use Rattle.std.proofs.Common.{Some, sym, ap, ◌∙◌, arith}
 use Rattle.settling.specs.Prices.{count_refusal}
 use Rattle.settling.proofs.Certified.{adopt_judged, certified_plan, fits}
 use Rattle.settling.proofs.calls.adopt.Goals as goal

@@ -1,4 +1,4 @@
-use Rattle.std.proofs.Common.{◌≡◌, ℕ, ◌<◌, sym, ap, ◌∙◌, arith}
+use Rattle.std.proofs.Common.{sym, ◌∙◌, arith}
 use Rattle.settling.proofs.Certified.{certified_plan, fits}
 use Rattle.settling.proofs.calls.settle.Goals as goal
 

@@ -1,4 +1,4 @@
-use Rattle.std.proofs.Common.{◌≡◌, ℕ, get_or, arith}
+use Rattle.std.proofs.Common.{ℕ, get_or, arith}
 use Rattle.assignment_laws.proofs.Totals.{total_more}
 use Rattle.settling.specs.Prices.{asked}
 use Rattle.settling.proofs.pricing.pair_cost.Goals as goal
