@@ -1,11 +1,10 @@
 -- What `parse` answers, in the words of Numerals.
-use Rattle.std.proofs.Common.{◌≡◌, ℕ, ◌^◌, ◌<◌, true, List, [], ◌∷◌, length, get_or, Ok, Err, Result, refl, arith, rules}
+use Rattle.std.proofs.Common.{◌≡◌, ℕ, true, List, get_or, Ok, Err, Result, arith, rules}
 use Rattle.std.proofs.lemmas.Str.Parse.{IsNumeralModel, numerals_by_fold, tells_all_ascii_digits, not_in_digits, parse_plain}
 use Rattle.std.specs.Str.Parse.{ParsesUnsigned}
 use Rattle.std.specs.Result.{result_ok}
-use Rattle.std.specs.Int.{IsInRange}
 use Rattle.std.specs.Str.{all_ascii_digits}
-use Rattle.job_words.specs.Numerals.{value_after, value_of, Writes, Reads}
+use Rattle.job_words.specs.Numerals.{value_after, Writes, Reads}
 
 pub own : IsNumeralModel (λ ds. all_ascii_digits ds ≡ true) (value_after 0)
 own = numerals_by_fold _ tells_all_ascii_digits value_after (search rules)

@@ -1,4 +1,6 @@
 // The lines, words and numbers of a text.
+#![tactic(auto)]
+
 pub mod lines;
 pub mod numbers;
 

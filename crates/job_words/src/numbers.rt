@@ -96,7 +96,7 @@ fn value(word: &str) -> Option<u64>
 
 // The number that a word of decimal digits writes, where it fits its bits.
 pub fn read_number<N: Number>(word: &str) -> Option<N>
-    ensures cases { Reads bits number word.now result }
+    ensures cases { Reads N.bits N.number word.now result }
 {
     N::fitting(value(word)?)
 }
