@@ -1,4 +1,6 @@
 // Jobs: the text that says what is moved, from which layout into which, and what moving costs.
+#![tactic(auto)]
+
 mod draft;
 pub mod item;
 pub mod job;
