@@ -1,5 +1,5 @@
 -- Faults that a book carries, and calls on what is drawn.
-use Rattle.std.proofs.Common.{◌≡◌, Some, None, Option, Result, sym, ap, ◌∙◌, subst}
+use Rattle.std.proofs.Common.{◌≡◌, Some, Option, Result, sym, ap, ◌∙◌, subst}
 use Rattle.std.specs.Option.{option_map}
 use Rattle.book.specs.Refusals.{own, turn_of}
 use Rattle.book.specs.Steps.{FromTurn}
@@ -9,7 +9,6 @@ use Rattle.book.specs.declared.stage.Turn.{Turn}
 use Rattle.faults.specs.declared.cause.Cause.{Cause}
 use Rattle.faults.specs.declared.fault.Call.{Call}
 use Rattle.faults.specs.declared.fault.Fault.{Fault}
-use Rattle.faults.specs.declared.fault.Layer.{Layer}
 use Rattle.faults.specs.declared.fault.Layer.TheVariants.{Book}
 
 -- a fault of the book's layer and call is the book's own

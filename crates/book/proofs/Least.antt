@@ -1,9 +1,9 @@
 -- A book's plan is a least one, whatever has been done.
 use Rattle.std.proofs.Common.{◌≡◌, ℕ, Some, None, Ok, Err, Option, Result, sym, subst, arith}
-use Rattle.book.specs.Histories.{AlwaysLeast, LeastAt, LeastPlan, Reaches, World, given}
+use Rattle.book.specs.Histories.{AlwaysLeast, LeastAt, given}
 use Rattle.book.specs.Histories.Reaches.{start, drew, settled, adopted}
 use Rattle.book.specs.Refusals.{state_refusal, turn_of}
-use Rattle.book.specs.Steps.{AdoptStep, AdoptTurn, DrawStep, FromTurn, SettleStep, SettleTurn}
+use Rattle.book.specs.Steps.{AdoptTurn, DrawStep, FromTurn, SettleTurn}
 use Rattle.book.specs.declared.fault.BookFault.{BookFault}
 use Rattle.book.specs.declared.stage.Stage.{Stage}
 use Rattle.book.specs.declared.stage.Stage.TheVariants.{Empty}

@@ -7,7 +7,7 @@
 --     Covered, Sized, Planned, Priced    what is answered otherwise
 use Rattle.std.specs.Prelude.{◌≡◌, ℕ, Some, None, Option}
 use Rattle.std.specs.Option.{option_map, option_or}
-use Rattle.book.specs.Refusals.{own, settlement_of, state_refusal, turn_of}
+use Rattle.book.specs.Refusals.{settlement_of, state_refusal, turn_of}
 use Rattle.book.specs.declared.stage.Stage.{Stage}
 use Rattle.drawings.specs.Asking.{IsCover, board_refusal, cell_refusal}
 use Rattle.drawings.specs.Drawings.{package_of}

@@ -54,7 +54,7 @@ impl<E: Element> Book<E> {
 
     // The bytes of the sender's package for the role.
     pub fn package_bytes(&self, sender: usize, role: usize) -> Result<usize, BookFault>
-        ensures { Told Call.Ask (bytes_refusal self.now.stage sender role) result (λ v. Sized self.now.stage width sender role v) (Unit {0}) }
+        ensures { Told Call.Ask (bytes_refusal self.now.stage sender role) result (λ v. Sized self.now.stage E.width sender role v) (Unit {0}) }
     {
         let Some(drawing) = self.drawing() else {
             return Err(self.forbids(Call::Ask));

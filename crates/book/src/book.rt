@@ -90,7 +90,7 @@ impl<E: Element> Book<E> {
 
     // Finds a least naming by the tariff, with prices that certify it, and records what each package costs.
     pub fn settle<T: Tariff>(&mut self, tariff: &T) -> Result<(), BookFault>
-        ensures { SettleStep unit width (boards tariff.now) (cost tariff.now) self.old.stage result self.new.stage }
+        ensures { SettleStep E.unit E.width (T.boards tariff.now) (T.cost tariff.now) self.old.stage result self.new.stage }
     {
         let Some(turn) = self.turn() else {
             return Err(self.forbids(Call::Settle));
@@ -109,7 +109,7 @@ impl<E: Element> Book<E> {
 
     // Takes the proposed plan, where its prices certify it, and records what each package costs.
     pub fn adopt<T: Tariff>(&mut self, tariff: &T, plan: &Plan) -> Result<(), BookFault>
-        ensures { AdoptStep unit width (boards tariff.now) (cost tariff.now) plan.now self.old.stage result self.new.stage }
+        ensures { AdoptStep E.unit E.width (T.boards tariff.now) (T.cost tariff.now) plan.now self.old.stage result self.new.stage }
     {
         let Some(turn) = self.turn() else {
             return Err(self.forbids(Call::Adopt));

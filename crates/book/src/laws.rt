@@ -8,7 +8,7 @@ use elements::Element;
 // is a least one by the tariff that it was made or taken with. It answers true.
 pub fn plans_stand<E: Element>() -> bool
     ensures value { result ≡ true }
-    ensures least { AlwaysLeast unit width }
+    ensures least { AlwaysLeast E.unit E.width }
 {
     true
 }

@@ -1,4 +1,6 @@
 // The book of a turn: what is drawn, and the plan that is settled for it.
+#![tactic(auto)]
+
 pub mod asking;
 pub mod book;
 pub mod fault;
