@@ -1,10 +1,10 @@
 -- The numbers of the worked example, by computing them.
-use Rattle.std.proofs.Common.{◌≡◌, ℕ, zero, suc, ◌-◌, ◌<◌, false, cond, ◌&&◌, eqb, ltb, leb, [], ◌∷◌, ℤ, pos, Some, None, Option, sym, refl, ap, ◌∙◌, arith}
+use Rattle.std.proofs.Common.{◌≡◌, ℕ, zero, suc, ◌-◌, ◌<◌, false, cond, ◌&&◌, eqb, ltb, leb, [], ◌∷◌, pos, Some, None, Option, sym, refl, ap, ◌∙◌, arith}
 use Rattle.std.specs.Option.{option_map, option_or}
 use Rattle.assignment_laws.proofs.Same.{wrong_same}
 use Rattle.assignment_laws.proofs.Totals.{total_same}
 use Rattle.assignment_laws.specs.Judging.{Proposal, wrong_role}
-use Rattle.assignment_laws.specs.Namings.{bill_of, total}
+use Rattle.assignment_laws.specs.Namings.{total}
 use Rattle.drawings.specs.Drawings.{package_of}
 use Rattle.drawings.specs.declared.drawing.Drawing.{Drawing}
 use Rattle.drawing_parts.specs.Refusals.{first_below, fit_cause, share_cause, size_cause}
@@ -19,16 +19,14 @@ use Rattle.layouts.specs.Making.{topmost}
 use Rattle.layouts.specs.declared.layout.Layout.{Layout}
 use Rattle.overlays.specs.Laws.{example_bytes, example_source, example_target}
 use Rattle.overlays.specs.Packages.{bytes, elements}
-use Rattle.overlays.specs.declared.operation.Operation.{Operation}
 use Rattle.overlays.specs.declared.operation.Operation.TheVariants.{Identity}
 use Rattle.plans.specs.Plans.{line_of}
 use Rattle.sheets.specs.declared.line.Line.{Line}
 use Rattle.plans.specs.declared.plan.Plan as plans
-use Rattle.settling.specs.Prices.{asked, cost_of, count_refusal, question}
+use Rattle.settling.specs.Prices.{asked, count_refusal, question}
 use Rattle.settling.specs.Records.{proposed}
 use Rattle.splits.specs.Blocks.{Grid, grid}
 use Rattle.splits.specs.Places.{total as places}
-use Rattle.splits.specs.declared.order.Order.{Order}
 use Rattle.splits.specs.declared.order.Order.TheVariants.{RowMajor}
 use Rattle.tariffs.specs.Plains.{plain_price}
 use Rattle.worked.specs.Example.{Example, Says, Source, Target, Worked, adoption, cost, line}

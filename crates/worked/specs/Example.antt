@@ -9,7 +9,7 @@
 --     Worked                what follows: both layouts are accepted; with a target share of 8 the drawing is, and with 7 it is
 --                           refused; the packages' bytes; the costs; the bills of own names and of the exchange; the plan that
 --                           is adopted, and the one that is refused
-use Rattle.std.specs.Prelude.{◌≡◌, ℕ, ◌-◌, false, cond, [], ◌∷◌, ℤ, pos, Some, None, Option}
+use Rattle.std.specs.Prelude.{◌≡◌, ℕ, ◌-◌, false, [], ◌∷◌, ℤ, pos, Some, None, Option}
 use Rattle.assignment_laws.specs.Namings.{bill_of}
 use Rattle.drawings.specs.Drawings.{package_of}
 use Rattle.drawings.specs.Making as drawing
