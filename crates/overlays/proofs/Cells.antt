@@ -1,13 +1,13 @@
 -- The cells of an overlay tile the target, and each lies in one block of either side.
-use Rattle.std.proofs.Common.{◌≡◌, ℕ, ◌+◌, ◌-◌, ◌*◌, ◌/◌, ◌%◌, ◌<◌, ◌≤◌, List, length, get_or, sym, refl, ap, ◌∙◌, subst, arith}
+use Rattle.std.proofs.Common.{◌≡◌, ℕ, ◌+◌, ◌*◌, ◌/◌, ◌%◌, ◌<◌, ◌≤◌, List, get_or, sym, ap, ◌∙◌, subst, arith}
 use Rattle.std.proofs.lemmas.Nat.{mul-add-lt, div-mul-add, mod-mul-add, div_below, mod_below, div-add-mod'}
 use Rattle.splits.specs.Splits.{Cuts, Within, covering}
-use Rattle.splits.specs.Blocks.{Grid, Covers, cover, owner, column_blocks}
+use Rattle.splits.specs.Blocks.{Grid, Covers, cover, column_blocks}
 use Rattle.splits.proofs.Blocks.{covers, only}
 use Rattle.overlays.specs.declared.operation.Operation.{Operation}
 use Rattle.overlays.specs.declared.operation.Operation.TheVariants.{Identity, Transpose, ConjugateTranspose}
 use Rattle.overlays.specs.Turns.{turned, source_cover}
-use Rattle.overlays.specs.Lines.{Lines, Union}
+use Rattle.overlays.specs.Lines.{Lines}
 use Rattle.overlays.specs.Overlays.{Overlay, Holds, Joined, down, across, cells, top, bottom, left, right, target_block, source_block, role, sender}
 use Rattle.overlays.specs.Laws.{Lies, Tiled, InBlocks}
 use Rattle.overlays.proofs.Rising.{span_of, span_one, in_side, same_covering, of_first, of_second}

@@ -1,5 +1,5 @@
 -- The elements of packages, counted by cells, and all together.
-use Rattle.std.proofs.Common.{◌≡◌, ℕ, zero, suc, ◌+◌, ◌-◌, ◌*◌, ◌/◌, ◌%◌, ◌<◌, ◌≤◌, Bool, true, false, cond, ◌&&◌, eqb, List, length, get_or, set, sym, refl, ap, ◌∙◌, subst, inl, inr, mul_assoc, mul-zero, mul-one, add-one, arith}
+use Rattle.std.proofs.Common.{◌≡◌, ℕ, suc, ◌+◌, ◌-◌, ◌*◌, ◌/◌, ◌%◌, ◌<◌, ◌≤◌, Bool, true, false, cond, ◌&&◌, eqb, List, length, get_or, set, sym, refl, ap, ◌∙◌, subst, inl, inr, mul_assoc, mul-zero, mul-one, add-one, arith}
 use Rattle.std.proofs.lemmas.Nat.{div-mul-add, mod-mul-add, div-add-mod'}
 use Rattle.std.proofs.lemmas.List.{get_or-set_same, get_or-set_other}
 use Rattle.std.proofs.lemmas.Bool.{cases_eq, cond-true, cond-false, eq-eqb, ne_eqb, eqb-true, and_parts, and_from}
@@ -8,7 +8,7 @@ use Rattle.splits.specs.Blocks.{Grid, cover, owner}
 use Rattle.splits.proofs.Blocks.{covers}
 use Rattle.overlays.specs.declared.operation.Operation.{Operation}
 use Rattle.overlays.specs.Turns.{turned, source_cover}
-use Rattle.overlays.specs.Overlays.{Overlay, Holds, Joined, down, across, cells, top, bottom, left, right, area, target_block, source_block, role, sender}
+use Rattle.overlays.specs.Overlays.{Overlay, Holds, Joined, down, across, cells, top, left, area, source_block, role, sender}
 use Rattle.overlays.specs.Packages.{sum_below, counts, elements}
 use Rattle.overlays.specs.Laws.{part, ByCells, AddsUp}
 use Rattle.overlays.proofs.Cells.{row_lines, column_lines, row_at, column_at, cell_at, same_target, same_source, turned_below, role_below}

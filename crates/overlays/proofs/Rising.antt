@@ -1,8 +1,8 @@
 -- Lists that rise strictly to a size, and the lists that they refine.
-use Rattle.std.proofs.Common.{◌≡◌, ℕ, zero, suc, ◌+◌, ◌-◌, ◌<◌, ◌≤◌, Bool, true, false, ◌||◌, eqb, ◌⊎◌, List, [], ◌∷◌, length, get_or, sym, refl, ap, ◌∙◌, subst, inl, inr, add-zero, add-one, arith}
+use Rattle.std.proofs.Common.{◌≡◌, ℕ, zero, suc, ◌+◌, ◌-◌, ◌<◌, ◌≤◌, Bool, true, false, ◌||◌, eqb, ◌⊎◌, List, [], ◌∷◌, length, get_or, sym, refl, ◌∙◌, subst, inl, inr, add-zero, add-one, arith}
 use Rattle.std.proofs.lemmas.List.{ext_get_or}
 use Rattle.std.proofs.lemmas.Bool.{cases_Bool, cases_lt, cases_order, eqb-true, eq-eqb, false≢true, or_cases, or_left, or_right}
-use Rattle.splits.specs.Splits.{Cuts, Within, spans, covering}
+use Rattle.splits.specs.Splits.{Cuts, Within, covering}
 use Rattle.splits.proofs.Covering.{within, covered}
 use Rattle.overlays.specs.Lines.{Lines, Union, among}
 

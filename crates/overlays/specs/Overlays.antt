@@ -8,7 +8,7 @@
 --     Holds o k r c         cell k has the target's element of row r and column c
 --     Joined n rows columns o    both grids are sound, the source's sides being exchanged as the operation says, and the
 --                           lines are the unions of both grids' splits
-use Rattle.std.specs.Prelude.{◌≡◌, ℕ, ◌+◌, ◌-◌, ◌*◌, ◌/◌, ◌%◌, ◌<◌, ◌≤◌, List, slice_index}
+use Rattle.std.specs.Prelude.{ℕ, ◌+◌, ◌-◌, ◌*◌, ◌/◌, ◌%◌, ◌<◌, ◌≤◌, List, slice_index}
 use Rattle.overlays.specs.declared.operation.Operation.{Operation}
 use Rattle.overlays.specs.Lines.{Union}
 use Rattle.overlays.specs.Turns.{turned, source_cover}
