@@ -1,9 +1,9 @@
 -- How many runs have an element.
-use Rattle.std.proofs.Common.{◌≡◌, ℕ, zero, suc, ◌+◌, ◌-◌, ◌*◌, ◌/◌, ◌%◌, ◌<◌, ◌≤◌, min, Bool, true, false, cond, ◌&&◌, eqb, ltb, leb, ◌⊎◌, List, [], ◌∷◌, ◌++◌, sym, refl, ap, ◌∙◌, subst, inl, inr, mul-le-mul_right, mod-lt, suc-mul, div-add-mod', le-div_iff_mul-le, arith}
-use Rattle.std.proofs.lemmas.Bool.{cases_eq, cases_lt, cases_Bool, eq-eqb, ne_eqb, le-leb, lt-leb, lt-ltb, le-ltb, and_from, and_left, and_right, cond-true, cond-false}
-use Rattle.overlays.specs.Overlays.{Overlay, Holds, Joined, cells, top, bottom, left, right, sender}
+use Rattle.std.proofs.Common.{◌≡◌, ℕ, zero, suc, ◌+◌, ◌-◌, ◌*◌, ◌/◌, ◌%◌, ◌<◌, ◌≤◌, min, true, false, cond, ◌&&◌, eqb, ltb, leb, ◌⊎◌, List, [], ◌∷◌, ◌++◌, refl, ap, ◌∙◌, inl, inr, mul-le-mul_right, mod-lt, suc-mul, div-add-mod', le-div_iff_mul-le, arith}
+use Rattle.std.proofs.lemmas.Bool.{cases_eq, cases_lt, eq-eqb, ne_eqb, le-leb, lt-leb, lt-ltb, le-ltb, and_from, and_left, and_right}
+use Rattle.overlays.specs.Overlays.{Overlay, Holds, cells, top, bottom, left, right}
 use Rattle.runs.specs.Laws.{has, hits}
-use Rattle.runs.specs.Runs.{Run, span, pieces, piece, row_runs, cell_runs, runs_of}
+use Rattle.runs.specs.Runs.{Run, span, pieces, piece, row_runs, cell_runs}
 
 module _ (r c : ℕ) where
   hits_append : (xs ys : List Run) → hits r c (xs ++ ys) ≡ hits r c xs + hits r c ys

@@ -1,9 +1,9 @@
 -- Each element is in exactly one run, and each run in one row of a cell.
-use Rattle.std.proofs.Common.{◌≡◌, ℕ, zero, suc, ◌+◌, ◌-◌, ◌*◌, ◌/◌, ◌<◌, ◌≤◌, min, Bool, true, false, cond, eqb, ◌⊎◌, List, [], ◌∷◌, ◌++◌, sym, refl, ap, ◌∙◌, subst, inl, inr, suc-mul, le-div_iff_mul-le, arith}
-use Rattle.std.proofs.lemmas.Bool.{cases_Bool, cases_eq, eqb-true}
+use Rattle.std.proofs.Common.{◌≡◌, ℕ, zero, suc, ◌+◌, ◌-◌, ◌*◌, ◌<◌, ◌≤◌, min, Bool, true, false, cond, eqb, List, [], ◌∷◌, ◌++◌, sym, refl, ap, ◌∙◌, suc-mul, le-div_iff_mul-le, arith}
+use Rattle.std.proofs.lemmas.Bool.{eqb-true}
 use Rattle.std.specs.List.{AllByRecursion as All}
 use Rattle.overlays.proofs.Cells.{in_blocks, same_source, tiles}
-use Rattle.overlays.specs.Overlays.{Overlay, Holds, Joined, cells, top, bottom, left, right, sender, source_block}
+use Rattle.overlays.specs.Overlays.{Overlay, Holds, Joined, cells, top, bottom, left, right, sender}
 use Rattle.runs.specs.Laws.{CutRows, InCells, Inside, Once, hits, sender_at}
 use Rattle.runs.specs.Runs.{Run, cell_runs, piece, pieces, row_runs, runs_of, span}
 use Rattle.runs.proofs.Hitting.{cell_hit, cell_miss, span_one}

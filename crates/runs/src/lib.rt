@@ -1,2 +1,4 @@
 // The runs of a sender: the pieces in which it sends its cells.
+#![tactic(auto)]
+
 pub mod laws;
