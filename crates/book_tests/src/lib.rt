@@ -1,3 +1,5 @@
 // Examples of planning, with values from hand calculation.
+#![tactic(auto)]
+
 #[cfg(test)]
 mod tests;
