@@ -1,4 +1,6 @@
 // What becomes of a job: its plan or its refusal, and the words for both.
+#![tactic(auto)]
+
 pub mod planned;
 pub mod planning;
 pub mod refusal;
