@@ -1,8 +1,7 @@
 -- One step of a cursor over a drawing.
-use Rattle.std.proofs.Common.{◌≡◌, ℕ, zero, suc, ◌+◌, ◌-◌, ◌*◌, ◌<◌, ◌≤◌, min, max, Bool, true, false, cond, ◌&&◌, eqb, ltb, ◌⊎◌, List, [], ◌∷◌, ◌++◌, Some, None, Option, sym, refl, ap, ◌∙◌, subst, inl, inr, append_assoc, arith}
+use Rattle.std.proofs.Common.{◌≡◌, ℕ, ◌+◌, ◌-◌, ◌*◌, ◌<◌, ◌≤◌, min, false, cond, ltb, List, [], ◌∷◌, ◌++◌, Some, None, Option, sym, ap, ◌∙◌, subst, inl, inr, append_assoc, arith}
 use native.Mathlib.Nat.{sub-zero}
-use Rattle.std.proofs.lemmas.List.{append-nil}
-use Rattle.std.proofs.lemmas.Bool.{cases_Bool, cases_lt, cond-true, cond-false, lt-ltb, le-ltb, and_from, and_parts, ltb-true, ltb-false}
+use Rattle.std.proofs.lemmas.Bool.{cases_Bool, cases_lt, cond-true, cond-false, lt-ltb, le-ltb, ltb-true, ltb-false}
 use Rattle.std.specs.List.{AllByRecursion as All}
 use Rattle.faults.specs.declared.cause.Cause.{Cause}
 use Rattle.faults.specs.declared.cause.Cause.TheVariants.{Beyond}
@@ -13,12 +12,11 @@ use Rattle.drawing_parts.specs.declared.cell.Cell.{Cell}
 use Rattle.drawings.specs.declared.drawing.Drawing.{Drawing}
 use Rattle.overlays.proofs.Cells.{in_matrix, tall, wide}
 use Rattle.overlays.specs.Overlays.{Joined, Holds}
-use Rattle.runs.proofs.Once.{all_append, piece_inside}
+use Rattle.runs.proofs.Once.{all_append}
 use Rattle.runs.specs.Runs.{Run, pieces, piece, runs_of, span}
 use Rattle.cursors.specs.Cursors.{admits, bounded, chosen, runs_from}
-use Rattle.cursors.specs.Steps.{Found, NoneWanted, On, advance, left_at, passes, run_at, run_of}
+use Rattle.cursors.specs.Steps.{advance, left_at, passes, run_at, run_of}
 use Rattle.cursors.specs.declared.cursor.Cursor.{Cursor}
-use Rattle.cursors.specs.declared.cursor.Run as found
 use Rattle.cursors.specs.declared.cursor.Wanted.{Wanted}
 use Rattle.cursors.proofs.Leaving.{enter, from_past, next_cell, next_piece, next_row, skip, skipped_in, skipped_none}
 

@@ -1,4 +1,6 @@
 // Stepping through the runs of a sender.
+#![tactic(auto)]
+
 pub mod cursor;
 pub mod step;
 

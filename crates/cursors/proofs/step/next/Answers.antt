@@ -1,10 +1,9 @@
-use Rattle.std.proofs.Common.{◌≡◌, ℕ, ◌+◌, ◌<◌, ◌≤◌, min, true, false, ◌&&◌, ltb, List, [], ◌∷◌, ◌++◌, sym, refl, ap, ◌∙◌, subst, arith}
+use Rattle.std.proofs.Common.{◌≡◌, ◌+◌, ◌<◌, min, false, ltb, List, [], ◌++◌, sym, refl, ap, ◌∙◌, subst, arith}
 use Rattle.std.proofs.lemmas.List.{append-nil}
 use Rattle.std.proofs.lemmas.Bool.{and_parts, and_from, both_ways, lt-ltb, ltb-true}
 use Rattle.std.specs.List.{AllByRecursion as All}
 use Rattle.cursors.specs.Cursors.{admits, bounded}
-use Rattle.cursors.specs.Steps.{Found, left_at, passes, run_at, advance, run_of}
-use Rattle.drawings.specs.Drawings.{cells, role_of}
+use Rattle.cursors.specs.Steps.{Found, left_at, passes, run_at, advance}
 use Rattle.runs.specs.Runs.{Run, pieces}
 use Rattle.cursors.proofs.Stepping.{bounded_is, cell_size, cells_few, is_cell, no_cell, none_left, passed_on, skip_absent, skip_unwanted, step}
 use Rattle.cursors.proofs.step.next.Goals as goal

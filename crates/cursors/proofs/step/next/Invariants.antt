@@ -1,4 +1,4 @@
-use Rattle.std.proofs.Common.{◌≡◌, ◌-◌, ◌≤◌, false, List, ◌++◌}
+use Rattle.std.proofs.Common.{◌≡◌, ◌-◌, false, List, ◌++◌}
 use Rattle.std.specs.List.{AllByRecursion as All}
 use Rattle.cursors.specs.Cursors.{bounded}
 use Rattle.cursors.specs.Steps.{left_at, passes}
