@@ -51,6 +51,7 @@ fn line_len(text: &[u8]) -> usize
 }
 
 // The first line of a text, and what follows its line feed.
+#[tactic(auto, using(crate::proofs::Cutting::line_at, crate::proofs::Cutting::line_all))]
 pub fn first_line(text: &[u8]) -> (&[u8], &[u8])
     ensures line { Line text.now result.0.now result.1.now }
     ensures shorter { 0 < length text.now → length result.1.now < length text.now }
