@@ -1,7 +1,7 @@
 -- Each element of a sound grid is covered by exactly one block.
-use Rattle.std.proofs.Common.{◌≡◌, ℕ, zero, suc, ◌+◌, ◌-◌, ◌*◌, ◌/◌, ◌%◌, ◌<◌, ◌≤◌, length, get_or, sym, refl, ap, ◌∙◌, subst, arith}
+use Rattle.std.proofs.Common.{◌≡◌, ℕ, ◌+◌, ◌-◌, ◌*◌, ◌<◌, ◌≤◌, length, get_or, sym, ap, ◌∙◌, subst, arith}
 use Rattle.std.proofs.lemmas.Nat.{mul-add-lt, div-mul-add, mod-mul-add, div_below, mod_below, div-add-mod'}
-use Rattle.splits.specs.Splits.{Cuts, Within, spans, covering}
+use Rattle.splits.specs.Splits.{Within, covering}
 use Rattle.splits.specs.Blocks.{Grid, Sound, Covers, blocks, row_blocks, column_blocks, row_of, column_of, top, bottom, left, right, cover}
 use Rattle.splits.specs.Laws.{CoveredOnce}
 use Rattle.splits.proofs.Covering.{in_side, rises_to, within, within_one}

@@ -1,8 +1,8 @@
 -- What the rule of splits comes to: its beginnings can all be completed, and a legal list cuts its side.
-use Rattle.std.proofs.Common.{◌≡◌, ℕ, zero, suc, ◌+◌, ◌-◌, ◌<◌, ◌≤◌, Bool, true, false, cond, ◌&&◌, ◌||◌, eqb, ltb, leb, ◌⊎◌, List, [], ◌∷◌, length, get_or, Some, None, Option, sym, refl, ap, ◌∙◌, subst, inl, inr, add-one, sub-one, arith}
-use Rattle.std.proofs.lemmas.Bool.{cases_Bool, cases_eq, and_parts, and_from, or_cases, eqb-true, leb-true, ltb-true, eq-eqb}
+use Rattle.std.proofs.Common.{◌≡◌, ℕ, zero, suc, ◌+◌, ◌-◌, ◌<◌, ◌≤◌, true, eqb, List, [], ◌∷◌, length, get_or, Some, None, Option, refl, subst, inl, inr, add-one, arith}
+use Rattle.std.proofs.lemmas.Bool.{cases_Bool, cases_eq, and_parts, eqb-true, eq-eqb}
 use Rattle.std.proofs.lemmas.Bool.Decides.{nat_tests}
-use Rattle.faults.specs.Lists.{Rule, wrong_from, first_wrong, Legal, Completes, WrongAt}
+use Rattle.faults.specs.Lists.{wrong_from, first_wrong, Legal, Completes, WrongAt}
 use Rattle.faults.proofs.WrongLists.{wrong_lists}
 use Rattle.splits.specs.Splits.{split_rule, Cuts}
 use Rattle.splits.proofs.Rules.{stands, no_some}

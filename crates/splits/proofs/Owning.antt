@@ -1,7 +1,7 @@
 -- What the rule of owners comes to: its beginnings can all be completed, and a legal table owns its blocks.
-use Rattle.std.proofs.Common.{◌≡◌, ℕ, zero, suc, ◌+◌, ◌-◌, ◌<◌, ◌≤◌, Bool, true, false, cond, ◌&&◌, eqb, ltb, ◌⊎◌, List, [], ◌∷◌, length, get_or, Some, None, Option, sym, refl, ap, ◌∙◌, subst, inl, inr, arith}
+use Rattle.std.proofs.Common.{◌≡◌, ℕ, zero, suc, ◌+◌, ◌-◌, ◌<◌, true, eqb, ltb, List, [], ◌∷◌, length, get_or, Some, None, Option, refl, inl, inr, arith}
 use Rattle.std.proofs.lemmas.Bool.{cases_Bool, and_parts, and_from, eqb-true, ltb-true, eq-eqb, lt-ltb}
-use Rattle.faults.specs.Lists.{Rule, wrong_from, first_wrong, Legal, Completes, WrongAt}
+use Rattle.faults.specs.Lists.{wrong_from, first_wrong, Legal, Completes, WrongAt}
 use Rattle.faults.proofs.WrongLists.{wrong_lists}
 use Rattle.splits.specs.Owners.{owner_rule, Owned}
 use Rattle.splits.proofs.Rules.{stands, no_some}

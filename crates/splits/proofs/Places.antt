@@ -1,13 +1,13 @@
 -- Where the elements of a sound grid lie: in their owner's part, apart, and at equal steps.
-use Rattle.std.proofs.Common.{◌≡◌, ℕ, zero, suc, ◌+◌, ◌-◌, ◌*◌, ◌/◌, ◌%◌, ◌<◌, ◌≤◌, Bool, true, cond, eqb, ◌⊎◌, sym, refl, ap, ◌∙◌, subst, inl, inr, add-zero, mul-le-mul_right, add-mul, one-mul, mul-one, arith}
+use Rattle.std.proofs.Common.{◌≡◌, ℕ, zero, suc, ◌+◌, ◌-◌, ◌*◌, ◌/◌, ◌%◌, ◌<◌, ◌≤◌, eqb, sym, refl, ap, ◌∙◌, subst, inl, inr, add-zero, mul-le-mul_right, add-mul, one-mul, mul-one, arith}
 use Rattle.std.proofs.lemmas.Nat.{mul-add-lt, div-mul-add, mod-mul-add}
 use Rattle.std.proofs.lemmas.Bool.{cases_order, eq-eqb, cond-true}
 use Rattle.splits.specs.declared.order.Order.{Order}
 use Rattle.splits.specs.declared.order.Order.TheVariants.{RowMajor, ColumnMajor}
-use Rattle.splits.specs.Blocks.{Grid, Sound, Covers, blocks, top, left, bottom, right, height, width, owner, cover}
-use Rattle.splits.specs.Places.{lines, pitch, line, spot, room, inside, held, total, start, offset, place, step_along_row, step_down_column, row_step, column_step}
+use Rattle.splits.specs.Blocks.{Grid, Sound, Covers, blocks, top, left, height, width, owner, cover}
+use Rattle.splits.specs.Places.{lines, pitch, line, spot, room, inside, held, start, offset, place, step_along_row, step_down_column, row_step, column_step}
 use Rattle.splits.specs.Laws.{Filled, Naming, Shared, Placed, InParts, Apart, Stepped}
-use Rattle.splits.proofs.Blocks.{covers, only, in_matrix}
+use Rattle.splits.proofs.Blocks.{covers, only}
 
 -- two quotients and two remainders of one number are equal
 same_parts : (a w b c d : ℕ) → b < w → d < w → a * w + b ≡ c * w + d → (a ≡ c) × (b ≡ d)

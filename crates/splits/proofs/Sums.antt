@@ -1,10 +1,9 @@
 -- All blocks of a sound grid together have the matrix's elements.
-use Rattle.std.proofs.Common.{◌≡◌, ℕ, zero, suc, ◌+◌, ◌-◌, ◌*◌, ◌<◌, ◌≤◌, Bool, true, false, cond, eqb, length, get_or, sym, refl, ap, ◌∙◌, subst, add-zero, suc-mul, mul_comm, add-mul, mul-one, mul-add, add-one, arith}
+use Rattle.std.proofs.Common.{◌≡◌, ℕ, zero, suc, ◌+◌, ◌-◌, ◌*◌, ◌<◌, ◌≤◌, Bool, true, false, cond, eqb, get_or, sym, refl, ap, ◌∙◌, add-zero, suc-mul, mul_comm, add-mul, mul-add, add-one, arith}
 use Rattle.splits.specs.declared.order.Order.{Order}
 use Rattle.splits.specs.declared.order.Order.TheVariants.{RowMajor, ColumnMajor}
-use Rattle.splits.specs.Splits.{Cuts, spans}
-use Rattle.splits.specs.Blocks.{Grid, Sound, blocks, row_blocks, column_blocks, row_of, column_of, top, bottom, left, right, height, width, owner}
-use Rattle.splits.specs.Places.{lines, pitch, room, held, taken, total}
+use Rattle.splits.specs.Blocks.{Grid, Sound, blocks, row_blocks, column_blocks, height, width, owner}
+use Rattle.splits.specs.Places.{lines, pitch, room, held, taken}
 use Rattle.splits.specs.Laws.{Whole}
 use Rattle.splits.proofs.Blocks.{row_at, column_at}
 

@@ -9,7 +9,6 @@
 --     Covered            each index of a side is within exactly one of its blocks, the covering one
 use Rattle.std.specs.Prelude.{◌≡◌, ℕ, ◌+◌, ◌-◌, ◌<◌, ◌≤◌, Bool, false, ◌&&◌, ◌||◌, leb, List, length, drop, Some, None, Option, ◌==◌, nat_le, nat_lt, slice_index, slice_index_or}
 use Rattle.std.specs.List.{prefix_len}
-use Rattle.faults.specs.Lists.{Legal}
 
 abbrev pub split_rule : ℕ → ℕ → Option ℕ → Option ℕ → Bool
 split_rule size k None None = false

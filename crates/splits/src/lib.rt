@@ -1,5 +1,7 @@
 // How lists of splits cut a matrix into blocks, and where the elements of the blocks lie: the rules,
 // the searches and the laws that layouts rest on.
+#![tactic(auto)]
+
 pub mod cuts;
 pub mod laws;
 pub mod lines;

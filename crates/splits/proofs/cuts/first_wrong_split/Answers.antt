@@ -1,5 +1,5 @@
-use Rattle.std.proofs.Common.{◌≡◌, true, false, cond, length, drop, Some, None, sym, ap, ◌∙◌, subst, arith}
-use Rattle.faults.specs.Lists.{wrong_from, first_wrong}
+use Rattle.std.proofs.Common.{◌≡◌, true, false, length, Some, None, sym, ◌∙◌, arith}
+use Rattle.faults.specs.Lists.{first_wrong}
 use Rattle.splits.specs.Splits.{split_rule}
 use Rattle.splits.proofs.Cutting.{split_wrong_at}
 use Rattle.splits.proofs.Rules.{rule_more, rule_halts, rule_end}
