@@ -1,5 +1,5 @@
 -- Plans and what their sheets say: each is legal, has its sheet, and is written as the other is.
-use Rattle.std.proofs.Common.{◌≡◌, ℕ, List, ◌++◌, length, drop, Ok, Err, Result, sym, refl, ap, ◌∙◌}
+use Rattle.std.proofs.Common.{◌≡◌, ℕ, List, ◌++◌, length, drop, Ok, Err, Result, sym, refl, ap, ◌∙◌, subst}
 use Rattle.faults.specs.Answers.{Answers}
 use Rattle.faults.specs.declared.fault.Call.TheVariants.{Write}
 use Rattle.faults.specs.declared.fault.Fault.{Fault}
@@ -54,3 +54,7 @@ sheets_are_one p q bs sp sq = ap plan (one.sheets_are_one (content p) (content q
 
 pub sheets_read_back : SheetsReadBack
 sheets_read_back p legal = ap read_refusal (sheet_same p) ∙ sheet_read_back (content p) (legal_said p legal)
+
+-- what is read off a sheet is a plan of that sheet
+pub read_sheet : (c : Content) (p : Plan) (bs : List ℕ) → c.boards ≡ p.boards → c.bill ≡ p.bill → c.lines ≡ p.lines → sheets.SheetOf c bs → SheetOf p bs
+read_sheet c p bs boards bill lines of = sheet_meant p bs (subst (λ x. sheets.SheetOf x bs) (one.same_content c (content p) boards bill lines) of)

@@ -12,6 +12,7 @@ use sheets::Content;
 
 impl Plan {
     // The plan whose sheet the bytes are.
+    #[tactic(auto, using(crate::proofs::Contents::read_sheet))]
     pub fn read(bytes: &[u8]) -> Result<Plan, Fault>
         ensures { Answers Layer.Plans Call.Read (read_refusal bytes.now) result (λ p. SheetOf p bytes.now) (Unit {0}) }
     {
