@@ -5,7 +5,7 @@
 --     weight fs         the words that the frames fs take, each behind its receiver and length
 --     taken n w         the words that the lists w of n boards take
 --     Free s free       free words are left beside what the lists take, and openness is read off them
---     NewBus n w s     s is for n boards over the list w, and nothing waits
+--     NewBus n w s      s is for n boards over the list w, and nothing waits
 --     Made n w r        the answer r to the making of a bus for n boards over the list w
 use Rattle.std.specs.Prelude.{◌≡◌, ℕ, zero, suc, ◌+◌, Bool, List, [], ◌∷◌, length, take, Some, None, vec_items, vec_len, Result, MatchResult, nat_le}
 use Rattle.std.specs.Global.{Vec}

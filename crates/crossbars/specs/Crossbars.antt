@@ -2,7 +2,7 @@
 --     content x            the frames that the inbox x holds
 --     queue s k            the frames that wait for board k: what its inbox holds, and none past the last inbox
 --     vacant s k           whether board k is open: its inbox is empty
---     NewCrossbar n s     s is for n boards, and nothing waits
+--     NewCrossbar n s      s is for n boards, and nothing waits
 use Rattle.std.specs.Prelude.{◌≡◌, ℕ, Bool, List, [], map, slice_index_or}
 use Rattle.links.specs.Frames.{none_waits}
 use Rattle.crossbars.specs.Held.{held}

@@ -5,7 +5,7 @@
 --                                     do not fit; else their number, and the words before the rest of the buffer
 --     Unpacked due xs row read after r     the answer and the row after unpacking: None, and no change, where fewer
 --                                     words than due are there; else their number, and the elements read
---     RoundTrip words xs row after   where xs begins with the words of as many elements as the row has, these are read
+--     RoundTrip words xs row after    where xs begins with the words of as many elements as the row has, these are read
 --     Kept words xs k r               where xs begins with the words of more than k elements, r is the element k of these
 use Rattle.std.specs.Prelude.{◌≡◌, ℕ, zero, suc, ◌<◌, ◌≤◌, List, [], ◌∷◌, ◌++◌, length, take, drop, Option, MatchOption}
 use Rattle.std.specs.List.{flat_map, slice_get}

@@ -6,7 +6,7 @@
 --     pair_conjugate a     the conjugate
 --     pair_words a         its words
 --     pair_back ws         the element of the words ws
---     ComplexSamples      (1 + 2i)(3 - i) = 5 + 5i, and the conjugate of 3 + 5i is 3 + 4294967291i
+--     ComplexSamples       (1 + 2i)(3 - i) = 5 + 5i, and the conjugate of 3 + 5i is 3 + 4294967291i
 use Rattle.std.specs.Prelude.{◌≡◌, ℕ, ◌+◌, ◌-◌, ◌*◌, List, [], ◌∷◌, slice_index}
 use Rattle.elements.specs.Words.{modulus, wrap, word}
 use Rattle.elements.specs.declared.pair.Pair.{Pair}

@@ -23,15 +23,15 @@ impl Element for Word {
 
     ghost back = { word_back };
 
-    ghost least = { first_of (Prim.search rules, Prim.grind (arith, Self.row.coded.inj)) };
+    ghost least = { Prim.search rules };
 
-    ghost most = { first_of (Prim.search rules, Prim.grind (arith, Self.row.coded.inj)) };
+    ghost most = { Prim.search rules };
 
-    ghost sized = { first_of (Prim.search rules, Prim.grind (arith, Self.row.coded.inj)) };
+    ghost sized = { Prim.search rules };
 
     ghost kept = { λ x. word_equal (word_back (word_words x)) x (omega (arith, x.fits)) };
 
-    ghost twice = { first_of (Prim.search rules, Prim.grind (arith, Self.row.coded.inj)) };
+    ghost twice = { Prim.search rules };
 
     ghost neutral = { λ x. word_equal (word_product word_one x) x (omega (arith, x.fits)) };
 
