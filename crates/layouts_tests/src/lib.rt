@@ -1,3 +1,5 @@
+#![tactic(auto)]
+
 // Examples of layouts, with values from hand calculation.
 #[cfg(test)]
 mod tests;
