@@ -24,7 +24,7 @@ pub enum State {
 }
 
 // Where several causes apply to one call, the one that stands first here is returned.
-#[derive(Clone, Copy, PartialEq, Eq)]
+#[derive(Clone, Copy, PartialEq, Eq, Debug)]
 pub enum Cause {
     // A letter that names nothing.
     Letter { code: u32 },

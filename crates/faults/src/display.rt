@@ -76,53 +76,39 @@ impl fmt::Display for Call {
     }
 }
 
-// What is wrong, and the number that tells where, of every cause; a field of a sheet has a column too.
-fn told(cause: Cause) -> (&'static str, usize) {
-    match cause {
-        Cause::Letter { code } => ("unknown letter, code", code as usize),
-        Cause::Board { number } => ("board or count of boards outside limits,", number),
-        Cause::Size { number } => (
-            "rows, columns or boards outside limits or not fitting,",
-            number,
-        ),
-        Cause::Splits { side, index } => match side {
-            Side::Rows => ("row splits wrong at index", index),
-            Side::Columns => ("column splits wrong at index", index),
-        },
-        Cause::Owners { index } => ("owner table wrong at index", index),
-        Cause::Share { bank, owner } => match bank {
-            Bank::Source => ("source share outside limits or exceeded, owner", owner),
-            Bank::Target => ("target share outside limits or exceeded, owner", owner),
-        },
-        Cause::State { state } => ("not while the book is in state", state as usize),
-        Cause::Count { number } => ("made for another count of boards,", number),
-        Cause::Plan { role } => ("plan not adoptable, role", role),
-        Cause::Pass => ("lease of another pass, cause", 10),
-        Cause::Length { due } => ("wrong length, due", due),
-        Cause::Nothing { board } => ("nothing to do or waiting at board", board),
-        Cause::Closed { board } => ("not open, board", board),
-        Cause::Frame { word } => ("frame not due, header word", word),
-        Cause::Early { missing } => ("finish too early, elements missing", missing),
-        Cause::Field { line, .. } => ("sheet field not legal, line", line),
-        Cause::Beyond { index } => ("beyond limits at index", index),
-    }
-}
-
 impl fmt::Display for Cause {
     fn fmt<W: fmt::Write>(&self, f: &mut fmt::Formatter<W>) -> fmt::Result {
-        let (text, number) = told(*self);
         match *self {
-            Cause::Field { column, .. } => write!(f, "{text} {number}, column {column}"),
-            _ => write!(f, "{text} {number}"),
+            Cause::Letter { code } => write!(f, "unknown letter, code {code}"),
+            Cause::Board { number } => write!(
+                f,
+                "board or count of boards {number} outside limits"
+            ),
+            Cause::Size { number } => write!(
+                f,
+                "rows, columns or boards {number} outside limits or not fitting"
+            ),
+            Cause::Splits { side, index } => write!(f, "{side} splits wrong at index {index}"),
+            Cause::Owners { index } => write!(f, "owner table wrong at index {index}"),
+            Cause::Share { bank, owner } => write!(
+                f,
+                "{bank} share outside limits or exceeded, owner {owner}"
+            ),
+            Cause::State { state } => write!(f, "not while the book is {state}"),
+            Cause::Count { number } => write!(f, "made for another count of boards, {number}"),
+            Cause::Plan { role } => write!(f, "plan not adoptable, role {role}"),
+            Cause::Pass => f.write_str("lease of another pass"),
+            Cause::Length { due } => write!(f, "wrong length, {due} due"),
+            Cause::Nothing { board } => write!(f, "nothing to do or waiting at board {board}"),
+            Cause::Closed { board } => write!(f, "board {board} not open"),
+            Cause::Frame { word } => write!(f, "frame not due, header word {word}"),
+            Cause::Early { missing } => write!(f, "finish too early, {missing} elements missing"),
+            Cause::Field { line, column } => write!(
+                f,
+                "sheet field not legal, line {line}, column {column}"
+            ),
+            Cause::Beyond { index } => write!(f, "beyond limits at index {index}"),
         }
-    }
-}
-
-// A cause is shown to a programmer as to anybody.
-impl fmt::Debug for Cause {
-    fn fmt<W: fmt::Write>(&self, f: &mut fmt::Formatter<W>) -> fmt::Result {
-        let cause = *self;
-        write!(f, "{cause}")
     }
 }
 

@@ -12,7 +12,7 @@ use crate::question::Question;
 use crate::tariff::Tariff;
 use faults::Fault;
 
-#[derive(Clone, Copy)]
+#[derive(Clone, Copy, Debug)]
 pub struct Plain {
     boards: usize,
     ghost least: { 1 ≤ boards },

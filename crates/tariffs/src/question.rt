@@ -1,5 +1,5 @@
 // What a tariff is asked: everything about a package that its price may depend on.
-#[derive(Clone, Copy)]
+#[derive(Clone, Copy, PartialEq, Eq, Debug)]
 pub struct Question {
     pub sender: usize,
     pub receiver: usize,
