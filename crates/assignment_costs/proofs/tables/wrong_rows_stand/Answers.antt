@@ -1,8 +1,7 @@
-use Rattle.std.proofs.Common.{refl}
 use Rattle.faults.proofs.WrongLists.{wrong_lists}
 use Rattle.assignment_costs.specs.Costs.{row_rule}
 use Rattle.assignment_costs.proofs.Rows.{rows_complete}
 use Rattle.assignment_costs.proofs.tables.wrong_rows_stand.Goals as goal
 
-pub returns : goal.returns
-returns c = record { law = λ n costs i e. wrong_lists (row_rule n) (rows_complete n) costs i e; answer = refl }
+pub returns-clause-law : goal.returns-clause-law
+returns-clause-law c = λ n costs i e. wrong_lists (row_rule n) (rows_complete n) costs i e
