@@ -12,7 +12,7 @@ returns-then-k-len c =
           (c.loop-k.invariant
           ∙ scan_stops c.args.len (limits c.args.head c.args.high c.args.low) c.args.list.now c.loop-k.k c.loop-k-test.true
           (elim c.then-k-len.branch [
-            | then-k-len-via-then-k-len w ↦ inl w.if-k-len.true
+            | then-k-len-via-then-k-len w ↦ inl (omega arith)
             | then-k-len-via-else-k-len+then-x-limit_at w ↦ inr (subst (λ x. x < get_or c.args.list.now c.loop-k.k 0) w.limit_at.ensures.value w.if-x-limit_at.true)
           ]));
     }
@@ -20,7 +20,7 @@ returns-then-k-len c =
 pub loop-k-preserved : goal.loop-k-preserved
 loop-k-preserved c =
     c.loop-k.invariant
-    ∙ scan_more c.args.len (limits c.args.head c.args.high c.args.low) c.args.list.now c.loop-k.k c.loop-k-test.true c.if-k-len.false
+    ∙ scan_more c.args.len (limits c.args.head c.args.high c.args.low) c.args.list.now c.loop-k.k c.loop-k-test.true (omega arith)
     (subst (λ x. get_or c.args.list.now c.loop-k.k 0 ≤ x) c.limit_at.ensures.value c.if-x-limit_at.false)
 
 pub returns-then-list-len : goal.returns-then-list-len
