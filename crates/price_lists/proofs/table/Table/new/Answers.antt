@@ -5,7 +5,7 @@ use Rattle.bounded_lists.proofs.BoundedLists.{legal_list}
 use Rattle.bounded_lists.proofs.Refusals.{list_kept}
 use Rattle.tariffs.proofs.Refusals.{neither, boards_kept}
 use Rattle.price_lists.proofs.table.Table.new.Goals as goal
-use Rattle.std.proofs.Common.{◌*◌}
+use Rattle.std.proofs.Common.{◌*◌, arith}
 
 pub invariant_of-result : goal.invariant_of-result
 invariant_of-result c =
@@ -14,4 +14,4 @@ invariant_of-result c =
     let k = neither (boards_refusal n) (list_refusal (price_rule n) xs) c.requires.legal in
     let b = boards_kept n k.0 in
     let l = legal_list (2 * (n * n)) (price_limit n) xs (list_kept (price_rule n) xs k.1) in
-    record { least = b.0; most = b.1; sized = l.0; bounded = l.1 }
+    record { least = omega (arith, b.0); most = omega (arith, b.1); sized = omega (arith, l.0); bounded = l.1 }
