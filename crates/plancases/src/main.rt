@@ -1,4 +1,6 @@
 // Answers a row of cases on standard input: plans, checks and echoes.
+#![tactic(auto)]
+
 mod answers;
 mod cases;
 
