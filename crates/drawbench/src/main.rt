@@ -1,5 +1,8 @@
 // Makes drawings of two layouts of 32 by 32 blocks whose splits are staggered, as often as the first
 // argument says, and prints the cells of one and the elements of the packages that it asked for.
+#![tactic(auto)]
+
+use anyhow::anyhow;
 use drawings::Drawing;
 use faults::Fault;
 use layouts::Layout;
@@ -40,7 +43,7 @@ fn layout(rt: &HostRuntime, shift: u16, step: usize) -> anyhow::Result<Layout> {
 // Prints a fault, and makes an error of it.
 fn told(rt: &HostRuntime, fault: Fault) -> anyhow::Error {
     let _ = eprintln!(rt; "drawbench: {fault}");
-    "refused".into()
+    anyhow!("refused")
 }
 
 // The elements of one package of each of so many drawings, added up.
