@@ -1,7 +1,7 @@
 -- What is left of a sender's runs, one run or one cell on.
 use Rattle.std.proofs.Common.{◌≡◌, ℕ, suc, ◌+◌, ◌-◌, ◌<◌, ◌≤◌, Bool, true, false, cond, ◌&&◌, eqb, ltb, List, [], ◌∷◌, ◌++◌, sym, refl, ap, ◌∙◌, inl, inr, add-zero, arith}
 use Rattle.std.proofs.lemmas.Bool.{cases_Bool, cases_lt, cond-true, cond-false, lt-ltb, le-ltb, and_from, and_parts, eq-eqb, eqb-true, ltb-true}
-use Rattle.std.specs.List.{AllByRecursion as All}
+use Rattle.std.specs.List.{AllByRecursion}
 use Rattle.overlays.proofs.Cells.{tall, wide}
 use Rattle.overlays.specs.Overlays.{Overlay, Joined, cells, top, bottom, left, right, sender}
 use Rattle.runs.proofs.Hitting.{piece_below}
@@ -127,10 +127,10 @@ module _ (n rows columns : ℕ) (o : Overlay) (j : Joined n rows columns o) (m :
   in_cell : ℕ → ℕ → ℕ → List Run
   in_cell k a p = cond (eqb (sender o k) i) (cell_rest o m k a p) []
 
-  row_of : (k r q c : ℕ) → All (λ x. x.cell ≡ k) (span q c (λ p. piece o m k r p ∷ []))
+  row_of : (k r q c : ℕ) → AllByRecursion (λ x. x.cell ≡ k) (span q c (λ p. piece o m k r p ∷ []))
   row_of k r q c = span_all (λ x. x.cell ≡ k) c q (λ p. piece o m k r p ∷ []) (λ p a b. (refl, tt))
 
-  rest_of : (k a p : ℕ) (b : Bool) → All (λ x. x.cell ≡ k) (cond b (row_rest o m k (top o k + a) p ++ span (top o k + a + 1) (bottom o k - top o k - (a + 1)) (λ r. row_runs o m k r)) [])
+  rest_of : (k a p : ℕ) (b : Bool) → AllByRecursion (λ x. x.cell ≡ k) (cond b (row_rest o m k (top o k + a) p ++ span (top o k + a + 1) (bottom o k - top o k - (a + 1)) (λ r. row_runs o m k r)) [])
   rest_of k a p true =
       all_append (λ x. x.cell ≡ k) (row_rest o m k (top o k + a) p) _ (row_of k (top o k + a) p _)
       (span_all (λ x. x.cell ≡ k) (bottom o k - top o k - (a + 1)) (top o k + a + 1) (λ r. row_runs o m k r) (λ r l h. row_of k r 0 _))
@@ -143,10 +143,10 @@ module _ (n rows columns : ℕ) (o : Overlay) (j : Joined n rows columns o) (m :
       cond-true (ltb k (cells o)) _ _ (lt-ltb k (cells o) h)
       ∙ ap (λ t. cond (eqb (sender o k) i) (cell_rest o m k a p) [] ++ t) (sym (enter (k + 1)))
 
-  pub skipped_in : (k a p : ℕ) → All (λ x. x.cell ≡ k) (cond (eqb (sender o k) i) (cell_rest o m k a p) [])
+  pub skipped_in : (k a p : ℕ) → AllByRecursion (λ x. x.cell ≡ k) (cond (eqb (sender o k) i) (cell_rest o m k a p) [])
   skipped_in k a p = chosen_in k a p (eqb (sender o k) i)
     where
-      chosen_in : (k a p : ℕ) (b : Bool) → All (λ x. x.cell ≡ k) (cond b (cell_rest o m k a p) [])
+      chosen_in : (k a p : ℕ) (b : Bool) → AllByRecursion (λ x. x.cell ≡ k) (cond b (cell_rest o m k a p) [])
       chosen_in k a p true = rest_of k a p (ltb a (bottom o k - top o k) && ltb p (pieces (right o k - left o k) m))
       chosen_in k a p false = tt
 

@@ -2,7 +2,7 @@
 use Rattle.std.proofs.Common.{◌≡◌, ℕ, ◌+◌, ◌-◌, ◌*◌, ◌<◌, ◌≤◌, min, false, cond, ltb, List, [], ◌∷◌, ◌++◌, Some, None, Option, sym, ap, ◌∙◌, subst, inl, inr, append_assoc, arith}
 use native.Mathlib.Nat.{sub-zero}
 use Rattle.std.proofs.lemmas.Bool.{cases_Bool, cases_lt, cond-true, cond-false, lt-ltb, le-ltb, ltb-true, ltb-false}
-use Rattle.std.specs.List.{AllByRecursion as All}
+use Rattle.std.specs.List.{AllByRecursion}
 use Rattle.faults.specs.declared.cause.Cause.{Cause}
 use Rattle.faults.specs.declared.cause.Cause.TheVariants.{Beyond}
 use Rattle.drawings.proofs.Drawings.{drawable, joined, count, few}
@@ -93,12 +93,12 @@ module _ (d : Drawing) (m i : ℕ) (some : 1 ≤ m) (c : Cursor) (x : Cell) (is 
     step = step_on ∙ ap (λ v. v ∷ left_at d m i (advance x m c)) run_same
 
   -- a cell without a wanted run
-  by_cell : (w : Wanted) → admits w x.role ≡ false → (s : List Run) → All (λ v. v.cell ≡ c.cell) s → All (λ v. passes d w v ≡ false) s
+  by_cell : (w : Wanted) → admits w x.role ≡ false → (s : List Run) → AllByRecursion (λ v. v.cell ≡ c.cell) s → AllByRecursion (λ v. passes d w v ≡ false) s
   by_cell w off [] a = tt
   by_cell w off (v ∷ s) (e, a) = (ap (λ k. admits w (role_of d k)) e ∙ ap (admits w) (sym is.role) ∙ off, by_cell w off s a)
 
   pub skip_unwanted : (w : Wanted) → admits w x.role ≡ false
-      → (s : List Run) × (left_at d m i c ≡ s ++ left_at d m i (record { cell = c.cell + 1; row = 0; piece = 0 })) × All (λ v. passes d w v ≡ false) s
+      → (s : List Run) × (left_at d m i c ≡ s ++ left_at d m i (record { cell = c.cell + 1; row = 0; piece = 0 })) × AllByRecursion (λ v. passes d w v ≡ false) s
   skip_unwanted w off = (
     _,
     skip d.target.boards d.target.rows d.target.columns (overlay_of d) (over_joined d) m some i c.cell c.row c.piece one,
@@ -106,7 +106,7 @@ module _ (d : Drawing) (m i : ℕ) (some : 1 ≤ m) (c : Cursor) (x : Cell) (is 
   )
 
   pub skip_absent : (w : Wanted) → (x.sender ≡ i → c.row < x.height → c.piece < pieces x.width m → ⊥)
-      → (s : List Run) × (left_at d m i c ≡ s ++ left_at d m i (record { cell = c.cell + 1; row = 0; piece = 0 })) × All (λ v. passes d w v ≡ false) s
+      → (s : List Run) × (left_at d m i c ≡ s ++ left_at d m i (record { cell = c.cell + 1; row = 0; piece = 0 })) × AllByRecursion (λ v. passes d w v ≡ false) s
   skip_absent w none =
       let empty = skipped_none d.target.boards d.target.rows d.target.columns (overlay_of d) (over_joined d) m some i c.cell c.row c.piece
       (λ s g h. none (is.sender ∙ s) (subst (λ n. c.row < n) (sym is.height) g) (subst (λ n. c.piece < pieces n m) (sym is.width) h)) in (
@@ -121,7 +121,7 @@ pub none_left : (d : Drawing) (m i : ℕ) → 1 ≤ m → (c : Cursor) → cells
 none_left d m i some c h = from_past d.target.boards d.target.rows d.target.columns (overlay_of d) (over_joined d) m some i c.cell c.row c.piece h
 
 -- what was passed over before and now
-pub passed_on : (P : Run → Type 0) (l m n s t : List Run) → l ≡ s ++ m → m ≡ t ++ n → All P s → All P t → (u : List Run) × (l ≡ u ++ n) × All P u
+pub passed_on : (P : Run → Type 0) (l m n s t : List Run) → l ≡ s ++ m → m ≡ t ++ n → AllByRecursion P s → AllByRecursion P t → (u : List Run) × (l ≡ u ++ n) × AllByRecursion P u
 passed_on P l m n s t e f a b = (s ++ t, e ∙ ap (λ v. s ++ v) f ∙ sym (append_assoc s t n), all_append P s t a b)
 
 -- which cells there are

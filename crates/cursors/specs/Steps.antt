@@ -8,7 +8,7 @@
 --     On                    the cursor stands on a piece of the cell
 --     Found                 v is the first wanted run from the cursor on, and the new cursor stands right behind it
 use Rattle.std.specs.Prelude.{◌≡◌, ℕ, ◌+◌, ◌-◌, ◌*◌, ◌<◌, ◌≤◌, min, Bool, true, false, cond, List, ◌∷◌, ◌++◌, nat_lt}
-use Rattle.std.specs.List.{AllByRecursion as All}
+use Rattle.std.specs.List.{AllByRecursion}
 use Rattle.cursors.specs.Cursors.{admits, runs_from}
 use Rattle.cursors.specs.declared.cursor.Cursor.{Cursor}
 use Rattle.cursors.specs.declared.cursor.Run as found
@@ -32,12 +32,12 @@ abbrev pub passes : Drawing → Wanted → Run → Bool
 passes d w x = admits w (role_of d x.cell)
 
 abbrev pub NoneWanted : Drawing → ℕ → ℕ → Cursor → Wanted → Type 0
-NoneWanted d m i c w = All (λ x. passes d w x ≡ false) (left_at d m i c)
+NoneWanted d m i c w = AllByRecursion (λ x. passes d w x ≡ false) (left_at d m i c)
 
 pub record Found (d : Drawing) (m i : ℕ) (c : Cursor) (w : Wanted) (v : found.Run) (next : Cursor) : Type 0 where
   pub skipped : List Run
   pub split : left_at d m i c ≡ skipped ++ run_of v ∷ left_at d m i next
-  pub unwanted : All (λ x. passes d w x ≡ false) skipped
+  pub unwanted : AllByRecursion (λ x. passes d w x ≡ false) skipped
   pub wanted : passes d w (run_of v) ≡ true
   pub role : v.role ≡ role_of d v.cell
 

@@ -1,7 +1,7 @@
 -- Each element is in exactly one run, and each run in one row of a cell.
 use Rattle.std.proofs.Common.{◌≡◌, ℕ, zero, suc, ◌+◌, ◌-◌, ◌*◌, ◌<◌, ◌≤◌, min, Bool, true, false, cond, eqb, List, [], ◌∷◌, ◌++◌, sym, refl, ap, ◌∙◌, suc-mul, le-div_iff_mul-le, arith}
 use Rattle.std.proofs.lemmas.Bool.{eqb-true}
-use Rattle.std.specs.List.{AllByRecursion as All}
+use Rattle.std.specs.List.{AllByRecursion}
 use Rattle.overlays.proofs.Cells.{in_blocks, same_source, tiles}
 use Rattle.overlays.specs.Overlays.{Overlay, Holds, Joined, cells, top, bottom, left, right, sender}
 use Rattle.runs.specs.Laws.{CutRows, InCells, Inside, Once, hits, sender_at}
@@ -31,11 +31,11 @@ once n rows columns o j m some i r c h g =
     ∙ cond_zero (eqb (sender o q) i))
     ∙ ap (λ s. cond (eqb s i) 1 0) (sym from)
 
-pub all_append : (P : Run → Type 0) (xs ys : List Run) → All P xs → All P ys → All P (xs ++ ys)
+pub all_append : (P : Run → Type 0) (xs ys : List Run) → AllByRecursion P xs → AllByRecursion P ys → AllByRecursion P (xs ++ ys)
 all_append P [] ys a b = b
 all_append P (x ∷ xs) ys (p, a) b = (p, all_append P xs ys a b)
 
-pub span_all : (P : Run → Type 0) (n a : ℕ) (f : ℕ → List Run) → ((j : ℕ) → a ≤ j → j < a + n → All P (f j)) → All P (span a n f)
+pub span_all : (P : Run → Type 0) (n a : ℕ) (f : ℕ → List Run) → ((j : ℕ) → a ≤ j → j < a + n → AllByRecursion P (f j)) → AllByRecursion P (span a n f)
 span_all P zero a f each = tt
 span_all P (suc n) a f each = all_append P (f a) (span (a + 1) n f) (each a (omega arith) (omega arith)) (span_all P n (a + 1) f (λ j l h. each j (omega arith) (omega arith)))
 
@@ -61,16 +61,16 @@ module _ (n rows columns : ℕ) (o : Overlay) (j : Joined n rows columns o) (m :
         lies = λ t g. in_blocks n rows columns o j k r (left o k + p * m + t) (piece_holds k r p t one a b g);
       }
 
-  cell_inside : (k : ℕ) → sender o k ≡ i → k < cells o → All (Inside o m i) (cell_runs o m k)
+  cell_inside : (k : ℕ) → sender o k ≡ i → k < cells o → AllByRecursion (Inside o m i) (cell_runs o m k)
   cell_inside k sent one =
       span_all (Inside o m i) (bottom o k - top o k) (top o k) (λ r. row_runs o m k r)
       (λ r a b. span_all (Inside o m i) (pieces (right o k - left o k) m) 0 (λ p. piece o m k r p ∷ []) (λ p l h. (inside k r p sent one a (omega arith) (omega arith), tt)))
 
-  chosen_inside : (k : ℕ) → k < cells o → (b : Bool) → eqb (sender o k) i ≡ b → All (Inside o m i) (cond b (cell_runs o m k) [])
+  chosen_inside : (k : ℕ) → k < cells o → (b : Bool) → eqb (sender o k) i ≡ b → AllByRecursion (Inside o m i) (cond b (cell_runs o m k) [])
   chosen_inside k one true e = cell_inside k (eqb-true (sender o k) i e) one
   chosen_inside k one false e = tt
 
-  runs_inside : All (Inside o m i) (runs_of o m i)
+  runs_inside : AllByRecursion (Inside o m i) (runs_of o m i)
   runs_inside = span_all (Inside o m i) (cells o) 0 (λ k. cond (eqb (sender o k) i) (cell_runs o m k) []) (λ k l h. chosen_inside k (omega arith) (eqb (sender o k) i) refl)
 
 pub in_cells : InCells

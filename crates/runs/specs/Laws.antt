@@ -8,7 +8,7 @@
 --     InCells         each run of a sender is so inside; its cell lies in one block of the target and in one of the source
 --     CutRows         a row of 61 elements is cut into 60 and 1 as words, and into 30, 30 and 1 as pairs
 use Rattle.std.specs.Prelude.{◌≡◌, ℕ, ◌+◌, ◌<◌, ◌≤◌, Bool, cond, ◌&&◌, List, [], ◌∷◌, map, ◌==◌, nat_le, nat_lt}
-use Rattle.std.specs.List.{AllByRecursion as All}
+use Rattle.std.specs.List.{AllByRecursion}
 use Rattle.overlays.specs.Laws.{Lies}
 use Rattle.overlays.specs.Overlays.{Overlay, Holds, Joined, sender, left, right}
 use Rattle.overlays.specs.Turns.{source_cover}
@@ -39,7 +39,7 @@ pub record Inside (o : Overlay) (m i : ℕ) (x : Run) : Type 0 where
 
 abbrev pub InCells : Type 0
 InCells =
-    (n rows columns : ℕ) (o : Overlay) → Joined n rows columns o → (m : ℕ) → 1 ≤ m → (i : ℕ) → All (Inside o m i) (runs_of o m i)
+    (n rows columns : ℕ) (o : Overlay) → Joined n rows columns o → (m : ℕ) → 1 ≤ m → (i : ℕ) → AllByRecursion (Inside o m i) (runs_of o m i)
 
 abbrev pub CutRows : Type 0
 CutRows =

@@ -1,7 +1,7 @@
 use Rattle.std.proofs.Common.{◌≡◌, ◌+◌, ◌<◌, min, false, ltb, List, [], ◌++◌, sym, refl, ap, ◌∙◌, subst, arith}
 use Rattle.std.proofs.lemmas.List.{append-nil}
 use Rattle.std.proofs.lemmas.Bool.{and_parts, and_from, both_ways, lt-ltb, ltb-true}
-use Rattle.std.specs.List.{AllByRecursion as All}
+use Rattle.std.specs.List.{AllByRecursion}
 use Rattle.cursors.specs.Cursors.{admits, bounded}
 use Rattle.cursors.specs.Steps.{Found, left_at, passes, run_at, advance}
 use Rattle.runs.specs.Runs.{Run, pieces}
@@ -79,7 +79,7 @@ loop-cell-preserved c =
     let one = is_cell d c.loop-cell.at.cell asked.0 in
     let some = (bounded_is c.args.longest).0 in
     let most : c.min-most.result ≡ bounded c.args.longest = c.min-most.ensures ∙ ap (λ v. min v 60) c.max.ensures in
-    let skipped : (s : List Run) × (left_at d m i c.loop-cell.at ≡ s ++ left_at d m i (record { cell = c.loop-cell.at.cell + 1; row = 0; piece = 0 })) × All (λ v. passes d w v ≡ false) s =
+    let skipped : (s : List Run) × (left_at d m i c.loop-cell.at ≡ s ++ left_at d m i (record { cell = c.loop-cell.at.cell + 1; row = 0; piece = 0 })) × AllByRecursion (λ v. passes d w v ≡ false) s =
     elim c.else-stands.branch [
       | else-stands-via-then-stands+then-cell-sender+else-admits v ↦ skip_unwanted d m i some c.loop-cell.at c.in-Ok.cell asked.1 one w (sym v.if-admits.ensures)
       | else-stands-via-then-stands+else-cell-sender v ↦ skip_absent d m i some c.loop-cell.at c.in-Ok.cell asked.1 one w (λ s g h. v.if-cell-sender.false s)
@@ -96,4 +96,4 @@ returns c =
     let past = no_cell d c.loop-cell.at.cell c.in_default.field-0.cause c.in_default.ensures.cases.0 in
     let end : left_at d m c.args.sender c.args.from ≡ c.loop-cell.invariant.0 =
     c.loop-cell.invariant.1 ∙ ap (λ v. c.loop-cell.invariant.0 ++ v) (none_left d m c.args.sender (bounded_is c.args.longest).0 c.loop-cell.at past) ∙ append-nil c.loop-cell.invariant.0 in
-    subst (All (λ v. passes d c.args.wanted v ≡ false)) (sym end) c.loop-cell.invariant.2
+    subst (AllByRecursion (λ v. passes d c.args.wanted v ≡ false)) (sym end) c.loop-cell.invariant.2

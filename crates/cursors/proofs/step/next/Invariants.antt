@@ -1,5 +1,5 @@
 use Rattle.std.proofs.Common.{◌≡◌, ◌-◌, false, List, ◌++◌}
-use Rattle.std.specs.List.{AllByRecursion as All}
+use Rattle.std.specs.List.{AllByRecursion}
 use Rattle.cursors.specs.Cursors.{bounded}
 use Rattle.cursors.specs.Steps.{left_at, passes}
 use Rattle.drawings.specs.Drawings.{cells}
@@ -11,7 +11,7 @@ abbrev pub invariant-loop-cell : goal.invariant-loop-cell
 invariant-loop-cell l =
     (skipped : List Run)
     × (left_at l.drawing (bounded l.longest) l.sender l.initial.at ≡ skipped ++ left_at l.drawing (bounded l.longest) l.sender l.at)
-    × All (λ x. passes l.drawing l.wanted x ≡ false) skipped
+    × AllByRecursion (λ x. passes l.drawing l.wanted x ≡ false) skipped
 
 abbrev pub decreases-loop-cell : goal.decreases-loop-cell
 decreases-loop-cell l = cells l.drawing - l.at.cell
