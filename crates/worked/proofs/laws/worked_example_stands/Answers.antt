@@ -1,6 +1,5 @@
-use Rattle.std.proofs.Common.{refl}
 use Rattle.worked.proofs.Numbers.{worked}
 use Rattle.worked.proofs.laws.worked_example_stands.Goals as goal
 
-pub returns : goal.returns
-returns c = record { value = refl; worked = worked }
+pub returns-clause-worked : goal.returns-clause-worked
+returns-clause-worked c = worked
