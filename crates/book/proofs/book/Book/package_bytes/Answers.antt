@@ -1,4 +1,4 @@
-use Rattle.std.proofs.Common.{sym, ap, ◌∙◌}
+use Rattle.std.proofs.Common.{◌≡◌, None, sym, ap, ◌∙◌}
 use Rattle.std.specs.Option.{option_map}
 use Rattle.book.specs.Asking.{drawings_fault, drawn_refusal}
 use Rattle.book.specs.Refusals.{state_refusal}
@@ -14,8 +14,9 @@ returns-in-Ok g c =
     let i = c.args.sender in
     let x = c.args.role in
     let drawn = sym c.in-Some.ensures in
-    let answer = c.in-Ok.ensures.cases in (
+    let answer = c.in-Ok.ensures.cases in
+    let taken : board_refusal d i x ≡ None = cc answer.0 in (
       ap (λ o. drawn_refusal (state_refusal Ask c.args.self.now.stage) o (λ d. option_map (drawings_fault Ask) (board_refusal d i x))) drawn
-          ∙ ap (option_map (drawings_fault Ask)) answer.0,
+          ∙ ap (option_map (drawings_fault Ask)) taken,
       record { drawing = d; drawn = drawn; size = answer.1 ∙ ap (bytes (package_of d i x)) c.size.ensures.value },
     )
