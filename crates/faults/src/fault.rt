@@ -1,4 +1,6 @@
 // A fault: which call of which layer was refused, and why.
+ghost use Rattle.std.specs.Prelude.{◌≡◌};
+
 use crate::cause::Cause;
 
 // The layers that refuse.
@@ -46,4 +48,12 @@ pub struct Fault {
     pub layer: Layer,
     pub call: Call,
     pub cause: Cause,
+}
+
+impl Fault {
+    pub fn new(layer: Layer, call: Call, cause: Cause) -> Fault
+        ensures value { result ≡ record { layer = layer; call = call; cause = cause } }
+    {
+        Fault { layer, call, cause }
+    }
 }
