@@ -1,11 +1,10 @@
--- What the rule of splits comes to: its beginnings can all be completed, and a legal list cuts its side.
+-- What the rule of splits comes to: a legal list cuts its side.
 use Rattle.std.proofs.Common.{◌≡◌, ℕ, zero, suc, ◌+◌, ◌-◌, ◌<◌, ◌≤◌, true, eqb, List, [], ◌∷◌, length, get_or, Some, None, Option, refl, subst, inl, inr, add-one, arith}
-use Rattle.std.proofs.lemmas.Bool.{cases_Bool, cases_eq, and_parts, eqb-true, eq-eqb}
+use Rattle.std.proofs.lemmas.Bool.{cases_Bool, and_parts, eqb-true}
 use Rattle.std.proofs.lemmas.Bool.Decides.{nat_tests}
-use Rattle.faults.specs.Lists.{wrong_from, first_wrong, Legal, Completes, WrongAt}
-use Rattle.faults.proofs.WrongLists.{wrong_lists}
+use Rattle.wrong_lists.specs.Lists.{wrong_from, Legal}
 use Rattle.splits.specs.Splits.{split_rule, Cuts}
-use Rattle.splits.proofs.Rules.{stands, no_some}
+use Rattle.wrong_lists.proofs.Rules.{stands, no_some}
 
 -- what a number that may stand says of itself and of its index
 within_size : (size k : ℕ) (before : Option ℕ) (x : ℕ) → split_rule size k before (Some x) ≡ true → (x ≤ size) × (x < size → k < 32) × (k < 33)
@@ -17,22 +16,6 @@ within_size size k (Some b) x t = (grind (arith, nat_tests), λ l. grind (arith,
 
 above : (size k b x : ℕ) → split_rule size k (Some b) (Some x) ≡ true → b < x
 above size k b x t = grind (arith, nat_tests)
-
-may_end : (size k b : ℕ) → k < 32 → b < size → split_rule size (k + 1) (Some b) (Some size) ≡ true
-may_end size k b l s = grind (arith, nat_tests)
-
-pub split_completes : (size : ℕ) → Completes (split_rule size)
-split_completes size k before x t =
-    let w = within_size size k before x t in
-    elim (cases_eq x size) [
-      | inl e ↦ ([], rw (eq-eqb x size e) refl)
-      | inr n ↦
-          (let l : x < size = omega (arith, w.0) in
-          (size ∷ [], rw (may_end size k x (w.1 l) l, eq-eqb size size refl) refl))
-    ]
-
-pub split_wrong_at : (size : ℕ) (xs : List ℕ) (i : ℕ) → first_wrong (split_rule size) xs ≡ Some i → WrongAt (split_rule size) xs i
-split_wrong_at size = wrong_lists (split_rule size) (split_completes size)
 
 -- what a legal list is from its entry b on, k being the next index
 record Tail (size k b : ℕ) (xs : List ℕ) : Type 0 where

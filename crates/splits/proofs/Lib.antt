@@ -3,5 +3,4 @@ pub mod Covering
 pub mod Cutting
 pub mod Owning
 pub mod Places
-pub mod Rules
 pub mod Sums

@@ -1,27 +1,9 @@
--- What the rule of owners comes to: its beginnings can all be completed, and a legal table owns its blocks.
-use Rattle.std.proofs.Common.{◌≡◌, ℕ, zero, suc, ◌+◌, ◌-◌, ◌<◌, true, eqb, ltb, List, [], ◌∷◌, length, get_or, Some, None, Option, refl, inl, inr, arith}
-use Rattle.std.proofs.lemmas.Bool.{cases_Bool, and_parts, and_from, eqb-true, ltb-true, eq-eqb, lt-ltb}
-use Rattle.faults.specs.Lists.{wrong_from, first_wrong, Legal, Completes, WrongAt}
-use Rattle.faults.proofs.WrongLists.{wrong_lists}
+-- What the rule of owners comes to: a legal table owns its blocks.
+use Rattle.std.proofs.Common.{◌≡◌, ℕ, zero, suc, ◌+◌, ◌<◌, eqb, ltb, List, [], ◌∷◌, length, get_or, Some, None, Option, inl, inr, arith}
+use Rattle.std.proofs.lemmas.Bool.{cases_Bool, and_parts, eqb-true, ltb-true}
+use Rattle.wrong_lists.specs.Lists.{wrong_from, Legal}
 use Rattle.splits.specs.Owners.{owner_rule, Owned}
-use Rattle.splits.proofs.Rules.{stands, no_some}
-
--- d more blocks can have the owner of the one before
-filled : (blocks boards x : ℕ) → x < boards → (d k : ℕ) → k + d ≡ blocks → (ys : List ℕ) × (wrong_from (owner_rule blocks boards) k (Some x) ys ≡ None)
-filled blocks boards x l zero k e = ([], rw (eq-eqb k blocks (omega arith)) refl)
-filled blocks boards x l (suc d) k e =
-    let r = filled blocks boards x l d (k + 1) (omega arith) in
-    let t : owner_rule blocks boards k (Some x) (Some x) ≡ true = and_from (ltb k blocks) (ltb x boards) (lt-ltb k blocks (omega arith)) (lt-ltb x boards l) in
-    (x ∷ r.0, rw t r.1)
-
-pub owner_completes : (blocks boards : ℕ) → Completes (owner_rule blocks boards)
-owner_completes blocks boards k before x t =
-    let p = and_parts (ltb k blocks) (ltb x boards) t in
-    let h = ltb-true k blocks p.0 in
-    filled blocks boards x (ltb-true x boards p.1) (blocks - (k + 1)) (k + 1) (omega arith)
-
-pub owner_wrong_at : (blocks boards : ℕ) (xs : List ℕ) (i : ℕ) → first_wrong (owner_rule blocks boards) xs ≡ Some i → WrongAt (owner_rule blocks boards) xs i
-owner_wrong_at blocks boards = wrong_lists (owner_rule blocks boards) (owner_completes blocks boards)
+use Rattle.wrong_lists.proofs.Rules.{stands, no_some}
 
 record From (blocks boards k : ℕ) (xs : List ℕ) : Type 0 where
   long : k + length xs ≡ blocks

@@ -1,19 +1,35 @@
 // Where a list of splits is wrong, and which of its blocks covers an index.
 ghost use Rattle.std.specs.Prelude.{◌≡◌, MatchOption};
-ghost use Rattle.faults.specs.Lists.{first_wrong, Legal, WrongAt};
+ghost use Rattle.splits.specs.Completing.{split_completes};
 ghost use Rattle.splits.specs.Splits.{Covered, covering, split_rule};
+ghost use Rattle.wrong_lists.specs.Lists.{first_wrong, Legal, WrongAt};
 
-// Whether `here` may stand at index `k` of a list of splits, right after `before`.
-fn may_stand(size: usize, k: usize, before: Option<u16>, here: Option<u16>) -> bool
-    ensures { result ≡ split_rule size k before here }
-{
-    match (before, here) {
-        (None, None) => false,
-        (None, Some(x)) => k == 0 && x == 0,
-        (Some(p), None) => p as usize == size,
-        (Some(p), Some(x)) => p < x
-            && x as usize <= size
-            && (k < 32 || k == 32 && x as usize == size),
+use wrong_lists::{ListRule, first_wrong};
+
+// The rule of the splits of a side of this size.
+#[derive(Clone, Copy)]
+struct SplitRule {
+    size: usize,
+}
+
+impl ListRule for SplitRule {
+    type Entry = u16;
+
+    ghost may = { λ r. split_rule r.size };
+
+    ghost completes = { λ r. split_completes r.size };
+
+    fn may_stand(&self, k: usize, before: Option<u16>, here: Option<u16>) -> bool
+        ensures value { result ≡ split_rule self.now.size k before here }
+    {
+        match (before, here) {
+            (None, None) => false,
+            (None, Some(x)) => k == 0 && x == 0,
+            (Some(p), None) => p as usize == self.size,
+            (Some(p), Some(x)) => p < x
+                && x as usize <= self.size
+                && (k < 32 || k == 32 && x as usize == self.size),
+        }
     }
 }
 
@@ -22,18 +38,7 @@ pub fn first_wrong_split(size: usize, splits: &[u16]) -> Option<usize>
     ensures value { result ≡ first_wrong (split_rule size) splits.now }
     ensures law { MatchOption result (Legal (split_rule size) splits.now) (λ i. WrongAt (split_rule size) splits.now i) }
 {
-    let mut before: Option<u16> = None;
-    for (i, split) in splits.iter().enumerate() {
-        if !may_stand(size, i, before, Some(*split)) {
-            return Some(i);
-        }
-        before = Some(*split);
-    }
-    if may_stand(size, splits.len(), before, None) {
-        None
-    } else {
-        Some(splits.len())
-    }
+    first_wrong(&SplitRule { size }, splits)
 }
 
 // The block of a side that covers index `i`, for splits that begin with 0 and pass `i`.
@@ -41,9 +46,9 @@ pub fn covering_block(splits: &[u16], i: usize) -> usize
     ensures value { result ≡ covering splits.now i }
     ensures law { Covered }
 {
-    let mut k = 0;
-    while k + 1 < splits.len() && splits[k + 1] as usize <= i {
-        k += 1;
-    }
-    k
+    splits
+        .iter()
+        .skip(1)
+        .take_while(|split| **split as usize <= i)
+        .count()
 }

@@ -4,8 +4,9 @@
 
 pub mod cuts;
 pub mod laws;
+pub mod letters;
 pub mod lines;
 pub mod order;
 pub mod owners;
 
-pub use order::Order;
+pub use order::{Order, UnknownLetter};

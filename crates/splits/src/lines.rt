@@ -5,63 +5,55 @@ ghost use Rattle.splits.specs.Places.{line, lines, pitch, spot, step_along_row, 
 use crate::order::Order;
 
 impl Order {
+    // The one of two numbers that the order takes.
+    fn pick(self, by_row: usize, by_column: usize) -> usize
+        ensures { result ≡ lines self by_row by_column }
+    {
+        match self {
+            Order::RowMajor => by_row,
+            Order::ColumnMajor => by_column,
+        }
+    }
+
     // How many lines a block has.
     pub fn lines(self, height: usize, width: usize) -> usize
         ensures value { result ≡ lines self height width }
     {
-        match self {
-            Order::RowMajor => height,
-            Order::ColumnMajor => width,
-        }
+        self.pick(height, width)
     }
 
     // How many places a line of a block takes.
     pub fn pitch(self, height: usize, width: usize) -> usize
         ensures value { result ≡ pitch self height width }
     {
-        match self {
-            Order::RowMajor => width,
-            Order::ColumnMajor => height,
-        }
+        self.pick(width, height)
     }
 
     // The line of the element in row `i` and column `j` of a block.
     pub fn line(self, i: usize, j: usize) -> usize
         ensures value { result ≡ line self i j }
     {
-        match self {
-            Order::RowMajor => i,
-            Order::ColumnMajor => j,
-        }
+        self.pick(i, j)
     }
 
     // The spot of that element on its line.
     pub fn spot(self, i: usize, j: usize) -> usize
         ensures value { result ≡ spot self i j }
     {
-        match self {
-            Order::RowMajor => j,
-            Order::ColumnMajor => i,
-        }
+        self.pick(j, i)
     }
 
     // From an element to the next along its row, in a block of this pitch.
     pub fn step_along_row(self, pitch: usize) -> usize
         ensures value { result ≡ step_along_row self pitch }
     {
-        match self {
-            Order::RowMajor => 1,
-            Order::ColumnMajor => pitch,
-        }
+        self.pick(1, pitch)
     }
 
     // From an element to the next down its column, in a block of this pitch.
     pub fn step_down_column(self, pitch: usize) -> usize
         ensures value { result ≡ step_down_column self pitch }
     {
-        match self {
-            Order::RowMajor => pitch,
-            Order::ColumnMajor => 1,
-        }
+        self.pick(pitch, 1)
     }
 }

@@ -1,7 +1,10 @@
-// The order of the elements inside a block.
-
+// The order of the elements inside a block, and the letter that stands for it.
 #[derive(Clone, Copy, PartialEq, Eq, Debug)]
 pub enum Order {
     RowMajor,
     ColumnMajor,
 }
+
+// A letter that names no order.
+#[derive(Clone, Copy, PartialEq, Eq, Debug)]
+pub struct UnknownLetter(pub char);

@@ -1,0 +1,30 @@
+// Orders by their letters: R for row-major, C for column-major.
+ghost use Rattle.std.specs.Prelude.{◌≡◌};
+ghost use Rattle.splits.specs.Orders.{IsLetterOf, IsOrderOf};
+
+use crate::order::{Order, UnknownLetter};
+
+impl TryFrom<char> for Order {
+    type Error = UnknownLetter;
+
+    ghost try_from_gives = { IsOrderOf };
+
+    fn try_from(letter: char) -> Result<Order, UnknownLetter> {
+        match letter {
+            'R' => Ok(Order::RowMajor),
+            'C' => Ok(Order::ColumnMajor),
+            _ => Err(UnknownLetter(letter)),
+        }
+    }
+}
+
+impl From<Order> for char {
+    ghost from_gives = { IsLetterOf };
+
+    fn from(order: Order) -> char {
+        match order {
+            Order::RowMajor => 'R',
+            Order::ColumnMajor => 'C',
+        }
+    }
+}
