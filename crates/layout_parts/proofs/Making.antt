@@ -1,8 +1,8 @@
 -- What it says that a layout is not refused.
-use Rattle.std.proofs.Common.{◌≡◌, ℕ, ◌+◌, ◌-◌, ◌*◌, ◌≤◌, cond, ◌&&◌, leb, List, [], ◌∷◌, length, take, is_some, Some, None, Option, sym, refl, ap, ◌∙◌, inl, inr, mul-le-mul, arith}
+use Rattle.std.proofs.Common.{◌≡◌, ℕ, ◌-◌, ◌*◌, ◌≤◌, cond, ◌&&◌, leb, List, [], ◌∷◌, length, is_some, Some, None, Option, refl, ap, ◌∙◌, inl, inr, mul-le-mul, arith}
 use Rattle.std.proofs.lemmas.Bool.{cases_Bool, and_parts, leb-true}
 use Rattle.std.specs.Option.{option_map}
-use Rattle.faults.specs.Lists.{Rule, Legal, first_wrong}
+use Rattle.wrong_lists.specs.Lists.{Rule, Legal, first_wrong}
 use Rattle.faults.specs.declared.cause.Cause.{Cause}
 use Rattle.faults.specs.declared.cause.Cause.TheVariants.{Board, Size, Splits, Owners}
 use Rattle.faults.specs.declared.cause.Side.TheVariants.{Rows, Columns}
@@ -12,9 +12,9 @@ use Rattle.splits.specs.Owners.{owner_rule}
 use Rattle.splits.specs.Splits.{Cuts, split_rule, spans}
 use Rattle.splits.proofs.Cutting.{legal_cuts}
 use Rattle.splits.proofs.Owning.{legal_owned}
-use Rattle.layout_parts.specs.Making.{Buildable}
+use Rattle.layout_parts.specs.Buildable.{Buildable}
 use Rattle.layout_parts.specs.Refusals.{topmost, letter_cause, boards_cause, size_cause, splits_cause, owners_cause, frame_refusal, make_refusal}
-use Rattle.layout_parts.specs.Tables.{Lawful, Faultless, table_grid}
+use Rattle.layout_parts.specs.Tables.{Faultless}
 
 no_cause : (x : Cause) → ◌≡◌ {A = Option Cause} (Some x) None → ⊥
 no_cause x e = let z : ◌≡◌ {A = ℕ} 0 1 = cc in omega arith
@@ -102,38 +102,6 @@ build_sound n rows columns rs cs os o b =
       column_side = legal_cuts columns cs b.columns.0 b.column_splits;
       owned = legal_owned (spans rs * spans cs) n os b.owners;
     }
-
-pub build_lawful : (n rows columns : ℕ) (rs cs os : List ℕ) (o : Order) → Buildable n rows columns rs cs os → Lawful rs cs os o
-build_lawful n rows columns rs cs os o b = (n, rows, columns, build_sound n rows columns rs cs os o b, b.boards.1, b.rows.1, b.columns.1)
-
--- what the tables of a built layout hold in their used parts
-module _ (n rows columns : ℕ) (rs cs os : List ℕ) (o : Order) (b : Buildable n rows columns rs cs os) where
-  pub row_side : Cuts rows rs
-  row_side = (build_sound n rows columns rs cs os o b).row_side
-
-  pub column_side : Cuts columns cs
-  column_side = (build_sound n rows columns rs cs os o b).column_side
-
-  pub owners_few : length os ≤ 1024
-  owners_few =
-      let h : length rs - 1 ≤ 32 = omega (arith, row_side.short) in
-      let k : length cs - 1 ≤ 32 = omega (arith, column_side.short) in
-      omega (arith, (build_sound n rows columns rs cs os o b).owned.long, mul-le-mul h k)
-
-  module _ (tr tc to : List ℕ) (er : take (length rs) tr ≡ rs) (ec : take (length cs) tc ≡ cs) (eo : take (length os) to ≡ os) where
-    pub rows_held : take (length rs - 1 + 1) tr ≡ rs
-    rows_held = let e : length rs - 1 + 1 ≡ length rs = omega (arith, row_side.long) in ap (λ k. take k tr) e ∙ er
-
-    pub columns_held : take (length cs - 1 + 1) tc ≡ cs
-    columns_held = let e : length cs - 1 + 1 ≡ length cs = omega (arith, column_side.long) in ap (λ k. take k tc) e ∙ ec
-
-    pub owners_held : take ((length rs - 1) * (length cs - 1)) to ≡ os
-    owners_held = ap (λ k. take k to) (sym (build_sound n rows columns rs cs os o b).owned.long) ∙ eo
-
-    pub grid_held : table_grid (length rs - 1) (length cs - 1) tr tc to o ≡ grid rs cs os o
-    grid_held =
-        ap (λ x. grid x (take (length cs - 1 + 1) tc) (take ((length rs - 1) * (length cs - 1)) to) o) rows_held
-        ∙ (ap (λ x. grid rs x (take ((length rs - 1) * (length cs - 1)) to) o) columns_held ∙ ap (λ x. grid rs cs x o) owners_held)
 
 pub faultless : (may : Rule) (xs ys : List ℕ) → xs ≡ ys → Legal may ys → Faultless may xs
 faultless may xs ys e l = ap (λ zs. is_some (first_wrong may zs)) e ∙ ap is_some l

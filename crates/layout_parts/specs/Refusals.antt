@@ -1,17 +1,16 @@
 -- When the parts of a layout are refused. Assumes nothing.
 --     topmost causes      the first cause of a list in which each rule has its own, if it applies
---     order_of letter     the order that R (code 82) or C (code 67) names
 --     make_refusal ..     the cause for which a layout is refused: letter, boards, rows, columns, row splits,
 --                         column splits, owners, in this order
-use Rattle.std.specs.Prelude.{ℕ, ◌*◌, cond, ◌&&◌, List, [], ◌∷◌, is_some, Some, None, Option, ◌==◌, nat_le}
+-- The order that a letter names, `order_of`, is passed on from the crate of orders.
+use Rattle.std.specs.Prelude.{ℕ, ◌*◌, cond, ◌&&◌, List, [], ◌∷◌, is_some, Some, None, Option, nat_le}
 use Rattle.std.specs.Option.{option_map}
-use Rattle.faults.specs.Lists.{first_wrong}
+use Rattle.wrong_lists.specs.Lists.{first_wrong}
 use Rattle.faults.specs.declared.cause.Cause.{Cause}
 use Rattle.faults.specs.declared.cause.Cause.TheVariants.{Letter, Board, Size, Splits, Owners}
 use Rattle.faults.specs.declared.cause.Side.{Side}
 use Rattle.faults.specs.declared.cause.Side.TheVariants.{Rows, Columns}
-use Rattle.splits.specs.declared.order.Order.{Order}
-use Rattle.splits.specs.declared.order.Order.TheVariants.{RowMajor, ColumnMajor}
+pub use Rattle.splits.specs.Orders.{order_of}
 use Rattle.splits.specs.Owners.{owner_rule}
 use Rattle.splits.specs.Splits.{split_rule, spans}
 
@@ -19,9 +18,6 @@ abbrev pub topmost : List (Option Cause) → Option Cause
 topmost [] = None
 topmost (None ∷ rest) = topmost rest
 topmost (Some cause ∷ rest) = Some cause
-
-abbrev pub order_of : ℕ → Option Order
-order_of letter = cond (letter == 82) (Some RowMajor) (cond (letter == 67) (Some ColumnMajor) None)
 
 abbrev pub letter_cause : ℕ → Option Cause
 letter_cause letter = cond (is_some (order_of letter)) None (Some (Letter letter))

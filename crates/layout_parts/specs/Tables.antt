@@ -2,17 +2,13 @@
 --     Faultless may xs               xs is legal: the rule has no first wrong index in it
 --     table_grid rb cb rs cs os o    rb by cb blocks: rb + 1 row splits in rs, cb + 1 column splits in cs,
 --                                    rb × cb owners in os
---     Lawful rs cs os o              the grid of these lists is sound, within the limits of a cabinet
-use Rattle.std.specs.Prelude.{◌≡◌, ℕ, ◌+◌, ◌*◌, ◌≤◌, false, List, take, is_some}
-use Rattle.faults.specs.Lists.{Rule, first_wrong}
+use Rattle.std.specs.Prelude.{◌≡◌, ℕ, ◌+◌, ◌*◌, false, List, take, is_some}
+use Rattle.wrong_lists.specs.Lists.{Rule, first_wrong}
 use Rattle.splits.specs.declared.order.Order.{Order}
-use Rattle.splits.specs.Blocks.{Grid, Sound, grid}
+use Rattle.splits.specs.Blocks.{Grid, grid}
 
 abbrev pub table_grid : ℕ → ℕ → List ℕ → List ℕ → List ℕ → Order → Grid
 table_grid rb cb rs cs os o = grid (take (rb + 1) rs) (take (cb + 1) cs) (take (rb * cb) os) o
 
 abbrev pub Faultless : Rule → List ℕ → Type 0
 Faultless may xs = is_some (first_wrong may xs) ≡ false
-
-abbrev pub Lawful : List ℕ → List ℕ → List ℕ → Order → Type 0
-Lawful rs cs os o = (n : ℕ) × (rows : ℕ) × (columns : ℕ) × Sound n rows columns (grid rs cs os o) × (n ≤ 16) × (rows ≤ 1024) × (columns ≤ 1024)

@@ -1,64 +1,74 @@
 // The tables of a layout.
 ghost use Rattle.std.specs.Prelude.{◌≡◌, ℕ, ◌+◌, ◌-◌, ◌*◌, ◌^◌, ◌<◌, ◌≤◌, length, take, drop, replicate, slice_index};
-ghost use Rattle.layout_parts.specs.Tables.{Lawful};
-ghost use Rattle.splits.specs.Blocks.{blocks, grid};
+ghost use Rattle.layout_parts.specs.Given.{checked_grid};
+ghost use Rattle.layout_parts.specs.Making.{Filled};
+ghost use Rattle.splits.specs.Blocks.{blocks};
 ghost use Rattle.splits.specs.Places.{room, start, total};
 
-use splits::Order;
+use crate::given::Checked;
+use crate::parts::{Parts, Tables};
 
 // A table that begins with the items and is blank after them.
-pub(crate) fn table<T: Copy, const N: usize>(items: &[T], blank: T) -> [T; N]
+fn table<T: Copy, const N: usize>(items: &[T], blank: T) -> [T; N]
     requires { length items.now ≤ N }
     ensures items { take (length items.now) result ≡ items.now }
     ensures rest { drop (length items.now) result ≡ replicate (N - length items.now) blank }
     ensures len { length result ≡ N }
 {
     let mut table = [blank; N];
-    for i in 0..items.len() {
-        table[i] = items[i];
-    }
+    table[..items.len()].copy_from_slice(items);
     table
 }
 
-// How many places block `b` takes.
-fn block_room(
-    order: Order,
-    row_splits: &[u16],
-    column_splits: &[u16],
-    owners: &[u8],
-    b: usize,
-) -> usize
-    requires lawful { Lawful row_splits.now column_splits.now owners.now order }
-    requires b_bound { b < blocks (grid row_splits.now column_splits.now owners.now order) }
-    ensures { result ≡ room (grid row_splits.now column_splits.now owners.now order) b }
-{
-    let across = column_splits.len() - 1;
-    let (i, j) = (b / across, b % across);
-    let height = (row_splits[i + 1] - row_splits[i]) as usize;
-    let width = (column_splits[j + 1] - column_splits[j]) as usize;
-    order.lines(height, width) * order.pitch(height, width)
-}
-
-// For each block how far from the beginning of its owner's part it begins, and for each board how many
-// elements its blocks have in all.
-pub(crate) fn tally(
-    order: Order,
-    row_splits: &[u16],
-    column_splits: &[u16],
-    owners: &[u8],
-) -> ([u32; 1024], [u32; 16])
-    requires { Lawful row_splits.now column_splits.now owners.now order }
-    ensures starts { (b : ℕ) → b < length owners.now → slice_index result.0 b ≡ start (grid row_splits.now column_splits.now owners.now order) b }
-    ensures rest { (b : ℕ) → length owners.now ≤ b → slice_index result.0 b ≡ 0 }
-    ensures totals { (p : ℕ) → p < 16 → slice_index result.1 p ≡ total (grid row_splits.now column_splits.now owners.now order) p }
-    ensures len { (length result.0 ≡ 1024) × (length result.1 ≡ 16) }
-{
-    let mut starts = [0; 1024];
-    let mut totals = [0; 16];
-    for b in 0..owners.len() {
-        let owner = owners[b] as usize;
-        starts[b] = totals[owner];
-        totals[owner] += block_room(order, row_splits, column_splits, owners, b) as u32;
+impl Checked<'_> {
+    // How many places block `b` takes.
+    fn block_room(self, b: usize) -> usize
+        requires { b < blocks (checked_grid self) }
+        ensures { result ≡ room (checked_grid self.entry) b }
+    {
+        let (rows, columns) = (self.given.row_splits, self.given.column_splits);
+        let across = columns.len() - 1;
+        let (i, j) = (b / across, b % across);
+        let height = (rows[i + 1] - rows[i]) as usize;
+        let width = (columns[j + 1] - columns[j]) as usize;
+        self.order.lines(height, width) * self.order.pitch(height, width)
     }
-    (starts, totals)
+
+    // For each block how far from the beginning of its owner's part it begins, and for each board how many
+    // elements its blocks have in all.
+    fn tally(self) -> ([u32; 1024], [u32; 16])
+        ensures starts { (b : ℕ) → b < length self.entry.given.owners.now → slice_index result.0 b ≡ start (checked_grid self.entry) b }
+        ensures rest { (b : ℕ) → length self.entry.given.owners.now ≤ b → slice_index result.0 b ≡ 0 }
+        ensures totals { (p : ℕ) → p < 16 → slice_index result.1 p ≡ total (checked_grid self.entry) p }
+        ensures len { (length result.0 ≡ 1024) × (length result.1 ≡ 16) }
+    {
+        let mut starts = [0; 1024];
+        let mut totals = [0; 16];
+        for (b, owner) in self.given.owners.iter().enumerate() {
+            let owner = *owner as usize;
+            starts[b] = totals[owner];
+            totals[owner] += self.block_room(b) as u32;
+        }
+        (starts, totals)
+    }
+
+    // The tables of what is checked.
+    pub(crate) fn fill(self) -> Parts
+        ensures { Filled self.entry.order self.entry.given.boards self.entry.given.rows self.entry.given.columns self.entry.given.row_splits.now self.entry.given.column_splits.now self.entry.given.owners.now result }
+    {
+        let given = self.given;
+        let (starts, totals) = self.tally();
+        Parts {
+            order: self.order,
+            row_blocks: given.row_splits.len() - 1,
+            column_blocks: given.column_splits.len() - 1,
+            tables: Tables {
+                row_splits: table(given.row_splits, 0),
+                column_splits: table(given.column_splits, 0),
+                owners: table(given.owners, 0),
+                starts,
+                totals,
+            },
+        }
+    }
 }

@@ -5,8 +5,9 @@
 pub mod block;
 mod causes;
 mod fill;
+mod given;
 pub mod make;
 pub mod parts;
 
 pub use block::{Block, Spot};
-pub use parts::Parts;
+pub use parts::{Parts, Tables};

@@ -1,14 +1,9 @@
--- What lawful lists say of their blocks.
-use Rattle.std.proofs.Common.{◌≡◌, ℕ, ◌+◌, ◌-◌, ◌<◌, ◌≤◌, cond, eqb, List, length, get_or, set, replicate, sym, ap, ◌∙◌, subst, inl, inr, mul-le-mul, add-one, arith}
+-- Tables that are filled by index.
+use Rattle.std.proofs.Common.{◌≡◌, ℕ, ◌+◌, ◌<◌, cond, eqb, List, length, get_or, set, replicate, sym, ap, ◌∙◌, subst, inl, inr, add-one, arith}
 use Rattle.std.proofs.lemmas.List.{get_or-set_same, get_or-set_other, get_or-replicate, get_or_past, length-replicate}
 use Rattle.std.proofs.lemmas.Bool.{cases_eq, cases_lt, cond-true, cond-false, eq-eqb, ne_eqb}
-use Rattle.splits.specs.declared.order.Order.{Order}
-use Rattle.splits.specs.Blocks.{Grid, blocks, row_of, column_of, top, bottom, left, right, grid, owner}
-use Rattle.splits.specs.Places.{room, start, held}
-use Rattle.splits.proofs.Blocks.{block_row, block_column, block_tall, block_wide}
-use Rattle.splits.proofs.Places.{ends_before}
-use Rattle.splits.proofs.Sums.{whole}
-use Rattle.layout_parts.specs.Tables.{Lawful}
+use Rattle.splits.specs.Blocks.{Grid, owner}
+use Rattle.splits.specs.Places.{room, held}
 
 pub zeros : (n k : ℕ) → ◌≡◌ {A = ℕ} (get_or {A = ℕ} (replicate n 0) k 0) 0
 zeros n k =
@@ -43,36 +38,3 @@ tally_more g b ts v l e all p h =
           let x = get_or-set_other ts (owner g b) p v 0 other in
           omega (arith, x, y, all p h, s))
     ]
-
-module _ (rs cs os : List ℕ) (o : Order) (law : Lawful rs cs os o) where
-  pub counted : length os ≡ blocks (grid rs cs os o)
-  counted = law.3.owned.long
-
-  pub few : blocks (grid rs cs os o) ≤ 1024
-  few =
-      let h : length rs - 1 ≤ 32 = omega (arith, law.3.row_side.short) in
-      let k : length cs - 1 ≤ 32 = omega (arith, law.3.column_side.short) in
-      mul-le-mul h k
-
-  module _ (b : ℕ) (l : b < blocks (grid rs cs os o)) where
-    pub row_in : row_of (grid rs cs os o) b + 1 < length rs
-    row_in = block_row law.0 law.1 law.2 (grid rs cs os o) law.3 b l
-
-    pub column_in : column_of (grid rs cs os o) b + 1 < length cs
-    column_in = block_column law.0 law.1 law.2 (grid rs cs os o) law.3 b l
-
-    pub tall : top (grid rs cs os o) b < bottom (grid rs cs os o) b
-    tall = block_tall law.0 law.1 law.2 (grid rs cs os o) law.3 b l
-
-    pub wide : left (grid rs cs os o) b < right (grid rs cs os o) b
-    wide = block_wide law.0 law.1 law.2 (grid rs cs os o) law.3 b l
-
-    pub board : get_or os b 0 < 16
-    board = omega (arith, law.3.owned.below b l, law.4)
-
-    -- an owner's blocks up to and with this one have no more elements than the matrix
-    pub little : start (grid rs cs os o) b + room (grid rs cs os o) b ≤ 1048576
-    little =
-        let g = grid rs cs os o in
-        omega
-        (arith, ends_before g b (blocks g) l, (whole law.0 law.1 law.2 g law.3).2 (owner g b), mul-le-mul law.5 law.6)
