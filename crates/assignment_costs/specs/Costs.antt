@@ -2,6 +2,7 @@
 --     cost_at c x y          what role x costs on board y
 --     row_rule n             what may stand in a list of the costs of n boards, row by row
 --     count_refusal n        why there is no table of n boards
+--     board_refusal c x      why table c has no role or board x
 --     place_refusal c x y    why table c has no cost of role x on board y
 --     write_refusal c x y v  why v cannot be written there
 --     rows_refusal n costs   why the list gives no table of n boards
@@ -9,7 +10,7 @@
 --     Zeroed, Rowed, Written what a table is after the call
 use Rattle.std.specs.Prelude.{◌≡◌, ℕ, ◌+◌, ◌*◌, ◌^◌, ◌<◌, ◌≤◌, cond, ◌&&◌, ◌||◌, ◌⊎◌, List, length, Some, None, Option, ◌==◌, ◌≢◌, nat_le, nat_lt, slice_index}
 use Rattle.std.specs.Option.{option_map}
-use Rattle.faults.specs.Lists.{Rule, first_wrong, WrongAt}
+use Rattle.wrong_lists.specs.Lists.{Rule, first_wrong, WrongAt}
 use Rattle.faults.specs.declared.cause.Cause.{Cause}
 use Rattle.faults.specs.declared.cause.Cause.TheVariants.{Board, Beyond}
 use Rattle.assignment_costs.specs.declared.costs.Costs.{Costs}
@@ -27,6 +28,9 @@ row_rule n k before (Some v) = nat_lt k (n * n) && nat_le v (2 ^ 44)
 
 abbrev pub rows_refusal : ℕ → List ℕ → Option Cause
 rows_refusal n costs = cond (n == 0 || nat_lt 16 n) (Some (Board n)) (option_map Beyond (first_wrong (row_rule n) costs))
+
+abbrev pub board_refusal : Costs → ℕ → Option Cause
+board_refusal c x = cond (nat_le c.boards x) (Some (Board x)) None
 
 abbrev pub place_refusal : Costs → ℕ → ℕ → Option Cause
 place_refusal c x y = cond (nat_le c.boards x) (Some (Board x)) (cond (nat_le c.boards y) (Some (Board y)) None)

@@ -5,4 +5,3 @@ pub mod costs;
 pub mod tables;
 
 pub use costs::Costs;
-pub use tables::fault;
