@@ -1,24 +1,24 @@
 // The bill of a naming, and the judge of a proposed assignment.
-ghost use Rattle.std.specs.Prelude.{◌≡◌, ℕ, ◌+◌, ◌*◌, ◌^◌, ◌<◌, ◌≤◌, ◌||◌, length, pos, ◌+ℤ◌, int_lt};
+ghost use Rattle.std.specs.Prelude.{◌≡◌, ℕ, ◌<◌, ◌≤◌, ◌||◌, Bool, true, None, pos, ◌+ℤ◌, int_lt, IsTrue};
+ghost use Rattle.std.specs.Option.{option_map};
 ghost use Rattle.assignment_costs.specs.Costs.{cost_at};
 ghost use Rattle.assignment.specs.Plans.{Certified, name_of, role_price, board_price, unpriced, unfair, bill_refusal, judge_refusal};
-ghost use Rattle.assignment_laws.specs.Judging.{Within, first_below, misnamed, beyond};
+ghost use Rattle.assignment_laws.specs.Judging.{Within, first_below, any_below, misnamed, beyond};
 ghost use Rattle.assignment_search.specs.Search.{val};
 ghost use Rattle.assignment_laws.specs.Namings.{bill_of, Least};
 ghost use Rattle.faults.specs.Answers.{Answers};
+ghost use Rattle.faults.specs.Checks.{Checks};
+ghost use Rattle.faults.specs.declared.cause.Cause.TheVariants.{Plan};
 
 use crate::plan::{Assignment, MOST_PRICE};
-use assignment_costs::{Costs, fault};
+use assignment_costs::Costs;
 use faults::{Call, Cause, Fault, Layer};
 
 // What the naming costs. Only its first entries count, one for each role.
 pub fn bill(costs: &Costs, naming: &[usize; 16]) -> Result<u64, Fault>
     ensures { Answers Layer.Assignment Call.Bill (bill_refusal costs.now (val naming.now)) result (λ v. v ≡ bill_of (cost_at costs.now) costs.now.boards (val naming.now)) (Unit {0}) }
 {
-    if let Some(role) = first_misnamed(costs.boards, naming) {
-        return Err(fault(Call::Bill, Cause::Plan { role }));
-    }
-    Ok(sum_of(costs, naming))
+    checked_bill(costs, naming).map_err(|cause| Fault::new(Layer::Assignment, Call::Bill, cause))
 }
 
 // Whether the proposal is certified by its prices, so that no naming costs less than its bill.
@@ -26,14 +26,36 @@ pub fn bill(costs: &Costs, naming: &[usize; 16]) -> Result<u64, Fault>
 pub fn judge(costs: &Costs, plan: &Assignment) -> Result<(), Fault>
     ensures { Answers Layer.Assignment Call.Judge (judge_refusal costs.now plan.now) result (λ _. Certified costs.now plan.now × Least (cost_at costs.now) costs.now.boards plan.now.bill) (Unit {0}) }
 {
-    if let Some(role) = first_unfit(costs.boards, plan) {
-        return Err(fault(Call::Judge, Cause::Plan { role }));
-    }
-    if let Some(role) = first_unfair(costs, plan) {
-        return Err(fault(Call::Judge, Cause::Plan { role }));
-    }
+    check_plan(costs, plan).map_err(|cause| Fault::new(Layer::Assignment, Call::Judge, cause))
+}
+
+fn checked_bill(costs: &Costs, naming: &[usize; 16]) -> Result<u64, Cause>
+    ensures { Checks (bill_refusal costs.now (val naming.now)) result (λ v. v ≡ bill_of (cost_at costs.now) costs.now.boards (val naming.now)) }
+{
+    check_roles(costs.boards, |role| is_misnamed(costs.boards, naming, role))?;
+    Ok(sum_of(costs, naming))
+}
+
+fn check_plan(costs: &Costs, plan: &Assignment) -> Result<(), Cause>
+    ensures { Checks (judge_refusal costs.now plan.now) result (λ _. Certified costs.now plan.now × Least (cost_at costs.now) costs.now.boards plan.now.bill) }
+{
+    check_roles(costs.boards, |role| is_unfit(costs.boards, plan, role))?;
+    check_roles(costs.boards, |role| is_unfair(costs, plan, role))?;
     if plan.bill != sum_of(costs, &plan.naming) {
-        return Err(fault(Call::Judge, Cause::Plan { role: costs.boards }));
+        return Err(Cause::Plan { role: costs.boards });
+    }
+    Ok(())
+}
+
+// Refuses the first role that is wrong, if any.
+fn check_roles<F: Fn(usize) -> bool>(boards: usize, is_wrong: F) -> Result<(), Cause>
+    requires { (x : ℕ) → x < boards → F.pre is_wrong x }
+    ensures { (t : ℕ → Bool) → ((x : ℕ) (b : Bool) → x < boards → F.post is_wrong x b → b ≡ t x) → Checks (option_map Plan (first_below t boards)) result (λ _. Unit {0}) }
+{
+    for role in 0..boards {
+        if is_wrong(role) {
+            return Err(Cause::Plan { role });
+        }
     }
     Ok(())
 }
@@ -44,27 +66,7 @@ fn is_misnamed(boards: usize, naming: &[usize; 16], role: usize) -> bool
     ensures { result ≡ misnamed boards (val naming.now) role }
 {
     let name = naming[role];
-    if boards <= name {
-        return true;
-    }
-    for k in 0..role {
-        if naming[k] == name {
-            return true;
-        }
-    }
-    false
-}
-
-fn first_misnamed(boards: usize, naming: &[usize; 16]) -> Option<usize>
-    requires { boards ≤ 16 }
-    ensures { result ≡ first_below (misnamed boards (val naming.now)) boards }
-{
-    for role in 0..boards {
-        if is_misnamed(boards, naming, role) {
-            return Some(role);
-        }
-    }
-    None
+    boards <= name || naming[..role].contains(&name)
 }
 
 // The sum of the pairs' costs.
@@ -96,34 +98,15 @@ fn is_unfit(boards: usize, plan: &Assignment, role: usize) -> bool
     misnamed || role_beyond || board_beyond
 }
 
-fn first_unfit(boards: usize, plan: &Assignment) -> Option<usize>
-    requires { boards ≤ 16 }
-    ensures { result ≡ first_below (λ x. misnamed boards (name_of plan.now) x || unpriced plan.now x) boards }
+// The price of the role and that of the board together.
+fn price_of(plan: &Assignment, role: usize, board: usize) -> i64
+    requires role { role < 16 }
+    requires board { board < 16 }
+    requires role_within { Within (role_price plan.now role) }
+    requires board_within { Within (board_price plan.now board) }
+    ensures { result ≡ role_price plan.now role +ℤ board_price plan.now board }
 {
-    for role in 0..boards {
-        if is_unfit(boards, plan, role) {
-            return Some(role);
-        }
-    }
-    None
-}
-
-fn is_above(role: i64, board: i64, cost: u64) -> bool
-    requires role { Within role }
-    requires board { Within board }
-    requires cost { cost ≤ 2 ^ 44 }
-    ensures { result ≡ int_lt (pos cost) (role +ℤ board) }
-{
-    (cost as i64) < role + board
-}
-
-fn is_below(role: i64, board: i64, cost: u64) -> bool
-    requires role { Within role }
-    requires board { Within board }
-    requires cost { cost ≤ 2 ^ 44 }
-    ensures { result ≡ int_lt (role +ℤ board) (pos cost) }
-{
-    role + board < cost as i64
+    plan.roles[role] + plan.boards[board]
 }
 
 // Whether the prices of the role and of some board are above the pair's cost, or below it at the role's own board.
@@ -133,28 +116,11 @@ fn is_unfair(costs: &Costs, plan: &Assignment, role: usize) -> bool
     requires within { (x : ℕ) → x < costs.now.boards → Within (role_price plan.now x) × Within (board_price plan.now x) }
     ensures { result ≡ unfair costs.now plan.now role }
 {
-    for y in 0..costs.boards {
-        if is_above(plan.roles[role], plan.boards[y], costs.table[role * 16 + y]) {
+    for board in 0..costs.boards {
+        if (costs.table[role * 16 + board] as i64) < price_of(plan, role, board) {
             return true;
         }
     }
     let name = plan.naming[role];
-    is_below(
-        plan.roles[role],
-        plan.boards[name],
-        costs.table[role * 16 + name],
-    )
-}
-
-fn first_unfair(costs: &Costs, plan: &Assignment) -> Option<usize>
-    requires named { (x : ℕ) → x < costs.now.boards → name_of plan.now x < costs.now.boards }
-    requires within { (x : ℕ) → x < costs.now.boards → Within (role_price plan.now x) × Within (board_price plan.now x) }
-    ensures { result ≡ first_below (unfair costs.now plan.now) costs.now.boards }
-{
-    for role in 0..costs.boards {
-        if is_unfair(costs, plan, role) {
-            return Some(role);
-        }
-    }
-    None
+    price_of(plan, role, name) < costs.table[role * 16 + name] as i64
 }
