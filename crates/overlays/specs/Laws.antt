@@ -1,11 +1,11 @@
 -- The laws of overlays and packages. Assumes nothing.
---     UnionOnce     two lists of splits have one union
+--     UnionOnce      two lists of splits have one union
 --     Tiled          each element of the target is in exactly one cell, and a cell has elements of the target only
---     InBlocks      all elements of a cell are covered by its one block of the target, and through the operation by its
+--     InBlocks       all elements of a cell are covered by its one block of the target, and through the operation by its
 --                    one block of the source
 --     part o i j k   the elements of cell k that are in the package of board i for role j: all or none
---     ByCells       a package's elements are those of the cells whose sender and role are the package's
---     AddsUp        all packages of n boards together have rows × columns elements
+--     ByCells        a package's elements are those of the cells whose sender and role are the package's
+--     AddsUp         all packages of n boards together have rows × columns elements
 --     Worked         of the example's four packages the bytes are 12, 4, 24 and 8
 use Rattle.std.specs.Prelude.{◌≡◌, ℕ, ◌*◌, ◌<◌, cond, ◌&&◌, List, [], ◌∷◌, ◌==◌}
 use Rattle.overlays.specs.declared.operation.Operation.TheVariants.{Identity}

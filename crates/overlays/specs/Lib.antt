@@ -1,4 +1,5 @@
 pub mod Laws
+pub mod Letters
 pub mod Lines
 pub mod Overlays
 pub mod Packages

@@ -1,9 +1,9 @@
 -- Packages: what one board sends for one role. Assumes nothing.
---     sum_below n f        f 0 + f 1 + .. + f (n - 1)
---     counts op a b i j r c    1 if the target's element of row r and column c has role j in grid a and comes from an
---                          element of board i in grid b, and else 0
+--     sum_below n f                       f 0 + f 1 + .. + f (n - 1)
+--     counts op a b i j r c               1 if the target's element of row r and column c has role j in grid a and comes
+--                                         from an element of board i in grid b, and else 0
 --     elements op a b rows columns i j    the number of such elements, which is the package of board i for role j
---     bytes elements words    its bytes, for elements of so many words of 4 bytes
+--     bytes elements words                its bytes, for elements of so many words of 4 bytes
 use Rattle.std.specs.Prelude.{ℕ, zero, suc, ◌+◌, ◌*◌, cond, ◌&&◌, ◌==◌}
 use Rattle.overlays.specs.declared.operation.Operation.{Operation}
 use Rattle.overlays.specs.Turns.{source_cover}

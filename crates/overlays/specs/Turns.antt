@@ -1,7 +1,7 @@
 -- Which sides the operation exchanges. Assumes nothing.
---     turned op x y         x under the identity, y under both transposes
---     source_cover op g r c    the block of the source that the target's element of row r and column c comes from:
---                           the one that covers (r, c) under the identity and (c, r) under the transposes
+--     turned op x y              x under the identity, y under both transposes
+--     source_cover op g r c      the block of the source that the target's element of row r and column c comes from:
+--                                the one that covers (r, c) under the identity and (c, r) under the transposes
 --     SourceCovers op g b r c    block b of the source covers that element
 use Rattle.std.specs.Prelude.{ℕ}
 use Rattle.overlays.specs.declared.operation.Operation.{Operation}

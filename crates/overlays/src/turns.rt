@@ -6,7 +6,7 @@ use crate::operation::Operation;
 
 impl Operation {
     // The first under the identity, the second under both transposes.
-    pub fn turned(self, straight: usize, crossed: usize) -> usize
+    pub fn turned<T: Copy>(self, straight: T, crossed: T) -> T
         ensures value { result ≡ turned self straight crossed }
     {
         match self {
