@@ -1,10 +1,11 @@
 -- When the parts of a drawing are refused. Assumes nothing.
---     operation_of letter    the operation that N (code 78), T (84) or C (67) names
---     fit_cause op a b       the source's rows, columns or boards, the first of them that does not fit the target
---     first_below n p        the lowest number below n that passes
+--     fit_cause op a b            the source's rows, columns or boards, the first of them that does not fit the target
+--     first_below n p             the lowest number below n that passes
 --     share_cause bank l share    the count of boards for a share outside its limits, or else the lowest owner whose blocks
---                            exceed it
---     make_refusal ..        the cause for which a drawing is refused: letter, fit, source share, target share, in this order
+--                                 exceed it
+--     make_refusal ..             the cause for which a drawing is refused: letter, fit, source share, target share, in
+--                                 this order
+-- The operation that a letter names, `operation_of`, is passed on from the crate of overlays.
 use Rattle.std.specs.Prelude.{ℕ, zero, suc, Bool, cond, ◌&&◌, [], ◌∷◌, Some, None, Option, ◌==◌, nat_le, nat_lt}
 use Rattle.std.specs.Option.{option_map}
 use Rattle.faults.specs.declared.cause.Bank.{Bank}
@@ -15,11 +16,8 @@ use Rattle.layouts.specs.declared.layout.Layout.{Layout}
 use Rattle.layouts.specs.Layouts.{total_of}
 use Rattle.layouts.specs.Making.{topmost}
 use Rattle.overlays.specs.declared.operation.Operation.{Operation}
-use Rattle.overlays.specs.declared.operation.Operation.TheVariants.{Identity, Transpose, ConjugateTranspose}
 use Rattle.overlays.specs.Turns.{turned}
-
-abbrev pub operation_of : ℕ → Option Operation
-operation_of letter = cond (letter == 78) (Some Identity) (cond (letter == 84) (Some Transpose) (cond (letter == 67) (Some ConjugateTranspose) None))
+pub use Rattle.overlays.specs.Letters.{operation_of}
 
 -- a number that is not the one that is due
 abbrev pub size_cause : ℕ → ℕ → Option Cause

@@ -1,6 +1,8 @@
 // The causes for which the parts of a drawing are refused.
 ghost use Rattle.std.specs.Prelude.{◌≡◌};
-ghost use Rattle.drawing_parts.specs.Refusals.{exceeds, first_below, fit_cause, operation_of, parts_refusal, share_cause, size_cause};
+ghost use Rattle.drawing_parts.specs.Parts.{Fits, WithinShare};
+ghost use Rattle.drawing_parts.specs.Refusals.{exceeds, first_below, fit_cause, share_cause, size_cause};
+ghost use Rattle.faults.specs.Checks.{Checks};
 
 use faults::{Bank, Cause};
 use layouts::Layout;
@@ -8,90 +10,46 @@ use overlays::Operation;
 
 const SHARE: usize = 1048576;
 
-// The operation that the letter names.
-pub(crate) fn known_operation(letter: char) -> Option<Operation>
-    ensures { result ≡ operation_of letter }
-{
-    match letter {
-        'N' => Some(Operation::Identity),
-        'T' => Some(Operation::Transpose),
-        'C' => Some(Operation::ConjugateTranspose),
-        _ => None,
-    }
-}
-
-fn size_cause(due: usize, number: usize) -> Option<Cause>
-    ensures { result ≡ size_cause due number }
+fn check_size(due: usize, number: usize) -> Result<(), Cause>
+    ensures { Checks (size_cause due number) result (λ _. number ≡ due) }
 {
     if number == due {
-        None
+        Ok(())
     } else {
-        Some(Cause::Size { number })
+        Err(Cause::Size { number })
     }
 }
 
-fn fit_cause(operation: Operation, target: &Layout, source: &Layout) -> Option<Cause>
-    ensures { result ≡ fit_cause operation target.now source.now }
+// The source has the rows, columns and boards that the target asks for.
+pub(crate) fn check_fit(operation: Operation, target: &Layout, source: &Layout) -> Result<(), Cause>
+    ensures { Checks (fit_cause operation target.now source.now) result (λ _. Fits operation target.now source.now) }
 {
     let rows = operation.turned(target.rows, target.columns);
     let columns = operation.turned(target.columns, target.rows);
-    if let Some(cause) = size_cause(rows, source.rows) {
-        return Some(cause);
-    }
-    if let Some(cause) = size_cause(columns, source.columns) {
-        return Some(cause);
-    }
-    size_cause(target.boards, source.boards)
+    check_size(rows, source.rows)?;
+    check_size(columns, source.columns)?;
+    check_size(target.boards, source.boards)
 }
 
 // The lowest board whose blocks exceed the share, if any.
 fn first_over(layout: &Layout, share: usize) -> Option<usize>
     ensures { result ≡ first_below layout.now.boards (exceeds layout.now share) }
 {
-    for p in 0..layout.boards {
-        match layout.total(p) {
-            Ok(total) => {
-                if share < total {
-                    return Some(p);
-                }
-            }
-            Err(_) => unreachable(),
-        }
-    }
-    None
+    (0..layout.boards).find(|&p| layout.total(p).is_ok_and(|total| share < total))
 }
 
-fn share_cause(bank: Bank, layout: &Layout, share: usize) -> Option<Cause>
-    ensures { result ≡ share_cause bank layout.now share }
+// The share is within its limits, and no board's blocks exceed it.
+pub(crate) fn check_share(bank: Bank, layout: &Layout, share: usize) -> Result<(), Cause>
+    ensures { Checks (share_cause bank layout.now share) result (λ _. WithinShare layout.now share) }
 {
-    if 1 <= share && share <= SHARE {
-        match first_over(layout, share) {
-            Some(owner) => Some(Cause::Share { bank, owner }),
-            None => None,
-        }
-    } else {
-        Some(Cause::Share {
+    if share < 1 || SHARE < share {
+        return Err(Cause::Share {
             bank,
             owner: layout.boards,
-        })
+        });
     }
-}
-
-// The cause for which a drawing of these parts is refused, if any.
-pub(crate) fn parts_cause(
-    operation: Operation,
-    target: &Layout,
-    source: &Layout,
-    source_share: usize,
-    target_share: usize,
-) -> Option<Cause>
-    ensures { result ≡ parts_refusal operation target.now source.now source_share target_share }
-{
-    if let Some(cause) = fit_cause(operation, target, source) {
-        return Some(cause);
+    match first_over(layout, share) {
+        Some(owner) => Err(Cause::Share { bank, owner }),
+        None => Ok(()),
     }
-    if let Some(cause) = share_cause(Bank::Source, source, source_share) {
-        return Some(cause);
-    }
-    share_cause(Bank::Target, target, target_share)
 }

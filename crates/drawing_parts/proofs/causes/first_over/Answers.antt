@@ -1,22 +1,13 @@
-use Rattle.std.proofs.Common.{◌<◌, ◌≤◌, sym, arith}
-use Rattle.std.proofs.lemmas.Bool.{lt-ltb, le-ltb}
+use Rattle.std.proofs.Common.{◌≡◌, ◌<◌, true, false, rules, tests}
+use Rattle.std.proofs.lemmas.Iterator.{first_from_Range}
 use Rattle.drawing_parts.specs.Refusals.{exceeds}
-use Rattle.drawing_parts.proofs.Making.{found, none_more}
+use Rattle.drawing_parts.proofs.Making.{first_is}
 use Rattle.drawing_parts.proofs.causes.first_over.Goals as goal
-use Rattle.layouts.specs.Layouts.{total_of}
 
-pub returns-then-share-total : goal.returns-then-share-total
-returns-then-share-total c =
-    let l = c.args.layout.now in
-    let p = c.loop-p.p in
-    let h = c.in-Ok.ensures.cases.1 in
-    let t : c.args.share < total_of l p = omega (arith, h, c.if-share-total.true) in
-    sym (found l.boards p (exceeds l c.args.share) c.loop-p-test.true c.loop-p.invariant (lt-ltb c.args.share (total_of l p) t))
-
-pub loop-p-preserved : goal.loop-p-preserved
-loop-p-preserved c =
-    let l = c.args.layout.now in
-    let p = c.loop-p.p in
-    let h = c.in-Ok.ensures.cases.1 in
-    let t : total_of l p ≤ c.args.share = omega (arith, h, c.if-share-total.false) in
-    none_more p (exceeds l c.args.share) c.loop-p.invariant (le-ltb c.args.share (total_of l p) t)
+pub returns : goal.returns
+returns c =
+    let p = exceeds c.args.layout.now c.args.share in
+    first_is c.args.layout.now.boards p c.find.result
+    (first_from_Range _ _ _ _ (λ i. p i ≡ true) (λ i. i < c.args.layout.now.boards → p i ≡ false) c.find.ensures.ran
+    (λ i q k. search (rules, tests))
+    (λ i q k. (search rules, λ h. search (rules, tests))))
