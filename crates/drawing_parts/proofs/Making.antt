@@ -1,5 +1,5 @@
 -- What a search below a number finds, and what is merged of a source that fits.
-use Rattle.std.proofs.Common.{◌≡◌, ℕ, zero, suc, ◌<◌, ◌≤◌, Bool, true, false, cond, List, Some, None, Option, Bor, sym, refl, ap, ◌∙◌, subst, inl, inr, arith}
+use Rattle.std.proofs.Common.{◌≡◌, ℕ, zero, suc, ◌+◌, ◌<◌, ◌≤◌, Bool, true, false, cond, List, get_or, Some, None, Option, Bor, sym, refl, ap, ◌∙◌, subst, inl, inr, arith}
 use Rattle.std.proofs.lemmas.Bool.{cases_eq, cond-true, and_from, le-leb, ltb-false}
 use Rattle.std.specs.Option.{option_map}
 use Rattle.std.specs.Prelude.{MatchOption}
@@ -14,6 +14,7 @@ use Rattle.overlays.specs.declared.operation.Operation.{Operation}
 use Rattle.overlays.specs.declared.operation.Operation.TheVariants.{Identity, Transpose, ConjugateTranspose}
 use Rattle.overlays.specs.Turns.{turned}
 use Rattle.overlays.proofs.Cells.{turned_cuts}
+use Rattle.overlays.proofs.Merging.{Side}
 use Rattle.splits.specs.Splits.{Cuts}
 
 -- the lowest number that passes
@@ -80,3 +81,12 @@ pub turned_now : (op : Operation) (x y r : Bor (List ℕ)) (xs ys : List ℕ) �
 turned_now Identity x y r xs ys e f g = ap (λ v. v.now) e ∙ f
 turned_now Transpose x y r xs ys e f g = ap (λ v. v.now) e ∙ g
 turned_now ConjugateTranspose x y r xs ys e f g = ap (λ v. v.now) e ∙ g
+
+pub cond_more : (b : Bool) (n : ℕ) → cond b (n + 1) n + 1 ≡ cond b (n + 1 + 1) (n + 1)
+cond_more true n = refl
+cond_more false n = refl
+
+-- lines in tables that are alike
+pub side_as : (xs : List ℕ) (i n v : ℕ) (zs zs' ss ss' : List ℕ) → zs' ≡ zs → ss' ≡ ss → Side xs i n v (λ k. get_or zs k 0) (λ k. get_or ss k 0) → Side xs i n v (λ k. get_or zs' k 0) (λ k. get_or ss' k 0)
+side_as xs i n v zs zs' ss ss' e f s =
+    subst (λ us. Side xs i n v (λ k. get_or us k 0) (λ k. get_or ss' k 0)) (sym e) (subst (λ us. Side xs i n v (λ k. get_or zs k 0) (λ k. get_or us k 0)) (sym f) s)

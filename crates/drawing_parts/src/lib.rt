@@ -10,5 +10,5 @@ mod merge;
 pub mod parts;
 
 pub use cell::Cell;
-pub use lines::Lines;
+pub use lines::{Line, Lines};
 pub use parts::Parts;

@@ -67,8 +67,9 @@ impl Parts {
     ) -> Result<Parts, Fault>
         ensures cases { Answers Layer.Drawings Call.Make (make_refusal letter target.now source.now source_share target_share) result (λ p. AreParts letter target.now source.now source_share target_share p) (Unit {0}) }
     {
-        let operation = check_parts(letter, target, source, source_share, target_share)
-            .map_err(|cause| Fault::new(Layer::Drawings, Call::Make, cause))?;
+        let operation = check_parts(letter, target, source, source_share, target_share).map_err(
+            |cause| Fault::new(Layer::Drawings, Call::Make, cause),
+        )?;
         Ok(parts_of(operation, target, source))
     }
 }
