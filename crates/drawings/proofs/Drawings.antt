@@ -1,19 +1,21 @@
 -- What the invariants of a drawing say of its overlay.
-use Rattle.std.proofs.Common.{◌≡◌, ℕ, ◌+◌, ◌-◌, ◌*◌, ◌/◌, ◌%◌, ◌<◌, ◌≤◌, ltb, [], ◌∷◌, get_or, Some, None, sym, ap, ◌∙◌, subst, mul_comm, mul-le-mul, arith}
+use Rattle.std.proofs.Common.{◌≡◌, ℕ, ◌+◌, ◌-◌, ◌*◌, ◌/◌, ◌%◌, ◌<◌, ◌≤◌, ltb, List, [], ◌∷◌, map, get_or, Some, None, sym, ap, ◌∙◌, subst, mul_comm, mul-le-mul, arith}
 use Rattle.std.proofs.lemmas.Nat.{mul-add-lt, div-mul-add, mod-mul-add, div_below, mod_below, div-add-mod'}
 use Rattle.std.proofs.lemmas.Bool.{cond-true, lt-ltb}
-use Rattle.std.proofs.lemmas.List.{length-take-le, get_or-take}
+use Rattle.std.proofs.lemmas.List.{length-map, length-take-le, get_or-map, get_or-take}
 use Rattle.drawings.specs.declared.drawing.Drawing.{Drawing}
+use Rattle.drawing_parts.specs.declared.lines.Line.{Line}
 use Rattle.drawing_parts.specs.declared.lines.Lines.{Lines}
-use Rattle.drawing_parts.specs.Parts.{Drawable, elements_of, used, over, source_rows, source_columns}
-use Rattle.drawings.specs.Drawings.{overlay_of, cells, cell_top, cell_left, package_of, LawsOf}
+use Rattle.drawing_parts.specs.Parts.{Counted, Drawable, Named, elements_of, places, used, over, source_rows, source_columns}
+use Rattle.drawings.specs.Cells.{IsCellOf}
+use Rattle.drawings.specs.Drawings.{overlay_of, cells, package_of, LawsOf}
 use Rattle.drawings.specs.Asking.{IsCell, IsCover, board_cause, board_refusal, cell_refusal}
 use Rattle.drawing_parts.specs.declared.cell.Cell.{Cell}
 use Rattle.faults.specs.declared.cause.Cause.TheVariants.{Beyond, Board}
 use Rattle.layouts.specs.declared.layout.Layout.{Layout}
 use Rattle.layouts.specs.Layouts.{grid_of, row_cuts, column_cuts, blocks_of}
 use Rattle.layouts.specs.Making.{topmost}
-use Rattle.layouts.proofs.Layouts.{sound, count as blocks_count, few as blocks_few}
+use Rattle.layouts.proofs.Layouts.{sound, column_spans, count as blocks_count, few as blocks_few}
 use Rattle.overlays.specs.declared.operation.Operation.{Operation}
 use Rattle.overlays.specs.declared.operation.Operation.TheVariants.{Identity, Transpose, ConjugateTranspose}
 use Rattle.overlays.specs.Laws.{Lies}
@@ -25,29 +27,18 @@ use Rattle.overlays.proofs.Packages.{by_cells, adds_up, slot, slotted, slot_few,
 use Rattle.splits.specs.Blocks.{Grid, Sound, column_blocks, cover}
 use Rattle.splits.specs.Splits.{covering}
 
-pub drawable : (d : Drawing) → Drawable d.operation d.target d.source d.row_lines d.column_lines
-drawable d =
-    record {
-      fits = d.fitted;
-      row_side =
-          record {
-            counted = d.counted;
-            union = record { lines = record { first = d.rising.0; rises = d.rising.1; last = d.rising.2; long = d.rising.3 }; entries = d.joint };
-            target = d.named;
-            source = d.sourced;
-          };
-      column_side =
-          record {
-            counted = d.column_counted;
-            union =
-                record {
-                  lines = record { first = d.column_rising.0; rises = d.column_rising.1; last = d.column_rising.2; long = d.column_rising.3 };
-                  entries = d.column_joint;
-                };
-            target = d.column_named;
-            source = d.column_sourced;
-          };
-    }
+-- the lines of a table, and what it holds of them
+abbrev pub line_at : Lines → ℕ → Line
+line_at l k = get_or l.lines k (record { at = 0; target = 0; source = 0 })
+
+held : (f : Line → ℕ) (l : Lines) → Counted l → (k : ℕ) → k ≤ l.spans → get_or (map f l.lines) k 0 ≡ f (line_at l k)
+held f l c k h = get_or-map f l.lines k _ 0 (omega (arith, c, h))
+
+-- the block behind a line is the one that covers the line's place
+behind : (f : Line → ℕ) (xs : List ℕ) (l : Lines) → Counted l → Named xs (map f l.lines) l → (k v : ℕ) → k < l.spans → v ≡ (line_at l k).at → f (line_at l k) ≡ covering xs v
+behind f xs l c n k v h e =
+    let low : k ≤ l.spans = omega (arith, h) in
+    sym (held f l c k low) ∙ (n k h ∙ ap (covering xs) (held (λ x. x.at) l c k low ∙ sym e))
 
 -- the number of the block in the rows and columns of blocks that cover an element
 number : (g : Grid) (x y r c : ℕ) → x ≡ covering g.row_cuts r → y ≡ covering g.column_cuts c → x * column_blocks g + y ≡ cover g r c
@@ -73,10 +64,10 @@ module _ (op : Operation) (a b : Layout) (rs cs : Lines) (p : Drawable op a b rs
       }
 
   pub down_spans : down (over op a b rs cs) ≡ rs.spans
-  down_spans = omega (arith, length-take-le (rs.spans + 1) rs.cuts (omega (arith, p.row_side.counted)))
+  down_spans = omega (arith, length-take-le (rs.spans + 1) (places rs) (omega (arith, p.row_side.counted, length-map rs.lines (λ x. x.at))))
 
   pub across_spans : across (over op a b rs cs) ≡ cs.spans
-  across_spans = omega (arith, length-take-le (cs.spans + 1) cs.cuts (omega (arith, p.column_side.counted)))
+  across_spans = omega (arith, length-take-le (cs.spans + 1) (places cs) (omega (arith, p.column_side.counted, length-map cs.lines (λ x. x.at))))
 
   pub count : CellsOver (over op a b rs cs) ≡ rs.spans * cs.spans
   count = ap (λ x. x * across (over op a b rs cs)) down_spans ∙ ap (λ x. rs.spans * x) across_spans
@@ -84,11 +75,11 @@ module _ (op : Operation) (a b : Layout) (rs cs : Lines) (p : Drawable op a b rs
   pub few : rs.spans * cs.spans ≤ 3969
   few = mul-le-mul p.row_side.counted.1 p.column_side.counted.1
 
-  row_line : (k : ℕ) → k ≤ rs.spans → get_or (used rs) k 0 ≡ get_or rs.cuts k 0
-  row_line k h = get_or-take (rs.spans + 1) rs.cuts k 0 (omega arith)
+  row_line : (k : ℕ) → k ≤ rs.spans → get_or (used rs) k 0 ≡ (line_at rs k).at
+  row_line k h = get_or-take (rs.spans + 1) (places rs) k 0 (omega arith) ∙ held (λ x. x.at) rs p.row_side.counted k h
 
-  column_line : (k : ℕ) → k ≤ cs.spans → get_or (used cs) k 0 ≡ get_or cs.cuts k 0
-  column_line k h = get_or-take (cs.spans + 1) cs.cuts k 0 (omega arith)
+  column_line : (k : ℕ) → k ≤ cs.spans → get_or (used cs) k 0 ≡ (line_at cs k).at
+  column_line k h = get_or-take (cs.spans + 1) (places cs) k 0 (omega arith) ∙ held (λ x. x.at) cs p.column_side.counted k h
 
   pub package_all : (q : ℕ) → sum_below (rs.spans * cs.spans) (slotted (over op a b rs cs) q) ≡ elements_of op a b (q / 16) (q % 16)
   package_all q = ap (λ x. sum_below x (slotted (over op a b rs cs) q)) (sym count) ∙ slot_all a.boards a.rows a.columns (over op a b rs cs) joined a.counted.1 q
@@ -104,28 +95,28 @@ module _ (op : Operation) (a b : Layout) (rs cs : Lines) (p : Drawable op a b rs
     column_of : (i * cs.spans + j) % across (over op a b rs cs) ≡ j
     column_of = ap (λ x. (i * cs.spans + j) % x) across_spans ∙ mod-mul-add i cs.spans j k
 
-    pub top_at : top (over op a b rs cs) (i * cs.spans + j) ≡ get_or rs.cuts i 0
+    pub top_at : top (over op a b rs cs) (i * cs.spans + j) ≡ (line_at rs i).at
     top_at = ap (λ x. get_or (used rs) x 0) row_of ∙ row_line i (omega arith)
 
-    pub bottom_at : bottom (over op a b rs cs) (i * cs.spans + j) ≡ get_or rs.cuts (i + 1) 0
+    pub bottom_at : bottom (over op a b rs cs) (i * cs.spans + j) ≡ (line_at rs (i + 1)).at
     bottom_at = ap (λ x. get_or (used rs) (x + 1) 0) row_of ∙ row_line (i + 1) (omega arith)
 
-    pub left_at : left (over op a b rs cs) (i * cs.spans + j) ≡ get_or cs.cuts j 0
+    pub left_at : left (over op a b rs cs) (i * cs.spans + j) ≡ (line_at cs j).at
     left_at = ap (λ x. get_or (used cs) x 0) column_of ∙ column_line j (omega arith)
 
-    pub right_at : right (over op a b rs cs) (i * cs.spans + j) ≡ get_or cs.cuts (j + 1) 0
+    pub right_at : right (over op a b rs cs) (i * cs.spans + j) ≡ (line_at cs (j + 1)).at
     right_at = ap (λ x. get_or (used cs) (x + 1) 0) column_of ∙ column_line (j + 1) (omega arith)
 
-    pub tall_at : get_or rs.cuts i 0 < get_or rs.cuts (i + 1) 0
+    pub tall_at : (line_at rs i).at < (line_at rs (i + 1)).at
     tall_at = omega (arith, tall a.boards a.rows a.columns (over op a b rs cs) joined (i * cs.spans + j) one, top_at, bottom_at)
 
-    pub wide_at : get_or cs.cuts j 0 < get_or cs.cuts (j + 1) 0
+    pub wide_at : (line_at cs j).at < (line_at cs (j + 1)).at
     wide_at = omega (arith, wide a.boards a.rows a.columns (over op a b rs cs) joined (i * cs.spans + j) one, left_at, right_at)
 
-    pub area_at : (get_or rs.cuts (i + 1) 0 - get_or rs.cuts i 0) * (get_or cs.cuts (j + 1) 0 - get_or cs.cuts j 0) ≡ area (over op a b rs cs) (i * cs.spans + j)
+    pub area_at : ((line_at rs (i + 1)).at - (line_at rs i).at) * ((line_at cs (j + 1)).at - (line_at cs j).at) ≡ area (over op a b rs cs) (i * cs.spans + j)
     area_at =
-        let w = get_or cs.cuts (j + 1) 0 - get_or cs.cuts j 0 in
-        let x : get_or rs.cuts (i + 1) 0 - get_or rs.cuts i 0 ≡ bottom (over op a b rs cs) (i * cs.spans + j) - top (over op a b rs cs) (i * cs.spans + j) = omega (arith, top_at, bottom_at) in
+        let w = (line_at cs (j + 1)).at - (line_at cs j).at in
+        let x : (line_at rs (i + 1)).at - (line_at rs i).at ≡ bottom (over op a b rs cs) (i * cs.spans + j) - top (over op a b rs cs) (i * cs.spans + j) = omega (arith, top_at, bottom_at) in
         let y : w ≡ right (over op a b rs cs) (i * cs.spans + j) - left (over op a b rs cs) (i * cs.spans + j) = omega (arith, left_at, right_at) in
         ap (λ z. z * w) x ∙ ap (λ z. (bottom (over op a b rs cs) (i * cs.spans + j) - top (over op a b rs cs) (i * cs.spans + j)) * z) y
 
@@ -133,16 +124,18 @@ module _ (op : Operation) (a b : Layout) (rs cs : Lines) (p : Drawable op a b rs
     pub package_few : sum_below (i * cs.spans + j) (slotted (over op a b rs cs) (slot (over op a b rs cs) (i * cs.spans + j))) + area (over op a b rs cs) (i * cs.spans + j) ≤ 1048576
     package_few = omega (arith, slot_few a.boards a.rows a.columns (over op a b rs cs) joined (i * cs.spans + j) one, mul-le-mul a.tall.1 a.wide.1)
 
-    pub target_at : get_or rs.target i 0 * column_blocks (grid_of a) + get_or cs.target j 0 ≡ target_block (over op a b rs cs) (i * cs.spans + j)
+    pub target_at : (line_at rs i).target * a.column_blocks + (line_at cs j).target ≡ target_block (over op a b rs cs) (i * cs.spans + j)
     target_at =
-        number (grid_of a) (get_or rs.target i 0) (get_or cs.target j 0) (top (over op a b rs cs) (i * cs.spans + j)) (left (over op a b rs cs) (i * cs.spans + j))
-        (p.row_side.target i h ∙ ap (covering (row_cuts a)) (sym top_at)) (p.column_side.target j k ∙ ap (covering (column_cuts a)) (sym left_at))
+        ap (λ n. (line_at rs i).target * n + (line_at cs j).target) (sym (column_spans a))
+        ∙ number (grid_of a) _ _ _ _ (behind (λ x. x.target) (row_cuts a) rs p.row_side.counted p.row_side.target i _ h top_at)
+        (behind (λ x. x.target) (column_cuts a) cs p.column_side.counted p.column_side.target j _ k left_at)
 
-    pub source_at : turned op (get_or rs.source i 0) (get_or cs.source j 0) * column_blocks (grid_of b) + turned op (get_or cs.source j 0) (get_or rs.source i 0)
+    pub source_at : turned op (line_at rs i).source (line_at cs j).source * b.column_blocks + turned op (line_at cs j).source (line_at rs i).source
         ≡ source_block (over op a b rs cs) (i * cs.spans + j)
     source_at =
-        source_number op (grid_of b) (get_or rs.source i 0) (get_or cs.source j 0) (top (over op a b rs cs) (i * cs.spans + j)) (left (over op a b rs cs) (i * cs.spans + j))
-        (p.row_side.source i h ∙ ap (covering (source_rows op b)) (sym top_at)) (p.column_side.source j k ∙ ap (covering (source_columns op b)) (sym left_at))
+        ap (λ n. turned op (line_at rs i).source (line_at cs j).source * n + turned op (line_at cs j).source (line_at rs i).source) (sym (column_spans b))
+        ∙ source_number op (grid_of b) _ _ _ _ (behind (λ x. x.source) (source_rows op b) rs p.row_side.counted p.row_side.source i _ h top_at)
+        (behind (λ x. x.source) (source_columns op b) cs p.column_side.counted p.column_side.source j _ k left_at)
 
     lies_at : Lies (over op a b rs cs) (i * cs.spans + j) (top (over op a b rs cs) (i * cs.spans + j)) (left (over op a b rs cs) (i * cs.spans + j))
     lies_at = lies a.boards a.rows a.columns (over op a b rs cs) joined (i * cs.spans + j) _ _ (holds_first a.boards a.rows a.columns (over op a b rs cs) joined (i * cs.spans + j) one)
@@ -171,7 +164,7 @@ laws d =
     let h = d.target.rows in
     let w = d.target.columns in
     let o = overlay_of d in
-    let j = joined d.operation d.target d.source d.row_lines d.column_lines (drawable d) in
+    let j = joined d.operation d.target d.source d.row_lines d.column_lines d.drawable in
     record {
       joined = j;
       tiled = tiles n h w o j;
@@ -184,13 +177,13 @@ laws d =
 -- the cell of a number, by its row and column of cells
 module _ (d : Drawing) (k : ℕ) (h : k < cells d) where
   below : k < d.row_lines.spans * d.column_lines.spans
-  below = omega (arith, h, count d.operation d.target d.source d.row_lines d.column_lines (drawable d))
+  below = omega (arith, h, count d.operation d.target d.source d.row_lines d.column_lines d.drawable)
 
   pub row_in : k / d.column_lines.spans < d.row_lines.spans
-  row_in = div_below k d.column_lines.spans d.row_lines.spans (omega (arith, d.column_counted.0)) below
+  row_in = div_below k d.column_lines.spans d.row_lines.spans (omega (arith, d.drawable.column_side.counted.0)) below
 
   pub column_in : k % d.column_lines.spans < d.column_lines.spans
-  column_in = mod_below k d.column_lines.spans (omega (arith, d.column_counted.0))
+  column_in = mod_below k d.column_lines.spans (omega (arith, d.drawable.column_side.counted.0))
 
   pub same_cell : k / d.column_lines.spans * d.column_lines.spans + k % d.column_lines.spans ≡ k
   same_cell = div-add-mod' k d.column_lines.spans
@@ -198,40 +191,16 @@ module _ (d : Drawing) (k : ℕ) (h : k < cells d) where
   pub asked_cell : cell_refusal d k ≡ None
   asked_cell = cond-true (ltb k (cells d)) None (Some (Beyond 0)) (lt-ltb k (cells d) h)
 
-  pub is_cover : (t s : ℕ) → t ≡ target_block (overlay_of d) (k / d.column_lines.spans * d.column_lines.spans + k % d.column_lines.spans)
-      → s ≡ source_block (overlay_of d) (k / d.column_lines.spans * d.column_lines.spans + k % d.column_lines.spans) → IsCover d k t s
-  is_cover t s e f =
-      record { target = e ∙ ap (target_block (overlay_of d)) same_cell; source = f ∙ ap (source_block (overlay_of d)) same_cell; lies = λ r c v. (laws d).lies k r c v }
+-- what the cell in a row and column of cells is to the cell of its number
+module _ (d : Drawing) (k n : ℕ) (e : n ≡ k) where
+  pub is_cover : (t s : ℕ) → t ≡ target_block (overlay_of d) n → s ≡ source_block (overlay_of d) n → IsCover d k t s
+  is_cover t s f g =
+      record { target = f ∙ ap (target_block (overlay_of d)) e; source = g ∙ ap (source_block (overlay_of d)) e; lies = λ r c v. (laws d).lies k r c v }
 
-  pub tall_in : get_or d.row_lines.cuts (k / d.column_lines.spans) 0 < get_or d.row_lines.cuts (k / d.column_lines.spans + 1) 0
-  tall_in = tall_at d.operation d.target d.source d.row_lines d.column_lines (drawable d) (k / d.column_lines.spans) (k % d.column_lines.spans) row_in column_in
-
-  pub wide_in : get_or d.column_lines.cuts (k % d.column_lines.spans) 0 < get_or d.column_lines.cuts (k % d.column_lines.spans + 1) 0
-  wide_in = wide_at d.operation d.target d.source d.row_lines d.column_lines (drawable d) (k / d.column_lines.spans) (k % d.column_lines.spans) row_in column_in
-
-  pub is_cell : (v : Cell) → v.top ≡ get_or d.row_lines.cuts (k / d.column_lines.spans) 0 → v.left ≡ get_or d.column_lines.cuts (k % d.column_lines.spans) 0
-      → v.height ≡ get_or d.row_lines.cuts (k / d.column_lines.spans + 1) 0 - get_or d.row_lines.cuts (k / d.column_lines.spans) 0
-      → v.width ≡ get_or d.column_lines.cuts (k % d.column_lines.spans + 1) 0 - get_or d.column_lines.cuts (k % d.column_lines.spans) 0
-      → v.role ≡ role (overlay_of d) (k / d.column_lines.spans * d.column_lines.spans + k % d.column_lines.spans)
-      → v.sender ≡ sender (overlay_of d) (k / d.column_lines.spans * d.column_lines.spans + k % d.column_lines.spans)
-      → IsCell d k v
-  is_cell v et el eh ew er es =
-      let i = k / d.column_lines.spans in
-      let j = k % d.column_lines.spans in
-      let t = top_at d.operation d.target d.source d.row_lines d.column_lines (drawable d) i j row_in column_in in
-      let b = bottom_at d.operation d.target d.source d.row_lines d.column_lines (drawable d) i j row_in column_in in
-      let l = left_at d.operation d.target d.source d.row_lines d.column_lines (drawable d) i j row_in column_in in
-      let r = right_at d.operation d.target d.source d.row_lines d.column_lines (drawable d) i j row_in column_in in
-      let t' : v.top ≡ cell_top d k = et ∙ (sym t ∙ ap (top (overlay_of d)) same_cell) in
-      let l' : v.left ≡ cell_left d k = el ∙ (sym l ∙ ap (left (overlay_of d)) same_cell) in
-      record {
-        top = t';
-        left = l';
-        height = omega (arith, eh, et, t', sym b ∙ ap (bottom (overlay_of d)) same_cell);
-        width = omega (arith, ew, el, l', sym r ∙ ap (right (overlay_of d)) same_cell);
-        role = er ∙ ap (role (overlay_of d)) same_cell;
-        sender = es ∙ ap (sender (overlay_of d)) same_cell;
-      }
+  pub is_cell : (v : Cell) → IsCellOf (overlay_of d) n v → IsCell d k v
+  is_cell v w =
+      let u = subst (λ m. IsCellOf (overlay_of d) m v) e w in
+      record { top = u.top; left = u.left; height = u.height; width = u.width; role = u.role; sender = u.sender }
 
 pub package_most : (d : Drawing) (i j : ℕ) → package_of d i j ≤ 1048576
 package_most d i j =

@@ -1,15 +1,18 @@
 -- What a drawing says of its cells and packages. Assumes nothing.
---     overlay_of d         the overlay of the drawing's layouts
---     cells d              the number of its cells, which are numbered row by row
---     cell_top d k, cell_bottom d k, cell_left d k, cell_right d k    the first row of cell k and the one after its last,
---                          the first column and the one after its last, in the target
---     target_block d k, source_block d k    the blocks of the target and of the source that cell k lies in
---     role_of d k, sender_of d k    the owners of these blocks
---     covers d k r c       cell k has the target's element of row r and column c
---     package_of d i j     the number of elements that board i sends for role j
---     LawsOf d            each element of the target is in exactly one cell; each cell lies in its block of the target and,
---                          through the operation, in its block of the source, and in no other; a package has the elements
---                          of its cells; all packages together have the matrix's elements
+--     overlay_of d            the overlay of the drawing's layouts
+--     cells d                 the number of its cells, which are numbered row by row
+--     cell_top d k, cell_bottom d k, cell_left d k, cell_right d k
+--                             the first row of cell k and the one after its last, the first column and the one after its
+--                             last, in the target
+--     target_block d k, source_block d k
+--                             the blocks of the target and of the source that cell k lies in
+--     role_of d k, sender_of d k
+--                             the owners of these blocks
+--     covers d k r c          cell k has the target's element of row r and column c
+--     package_of d i j        the number of elements that board i sends for role j
+--     LawsOf d                each element of the target is in exactly one cell; each cell lies in its block of the target
+--                             and, through the operation, in its block of the source, and in no other; a package has the
+--                             elements of its cells; all packages together have the matrix's elements
 use Rattle.std.specs.Prelude.{◌≡◌, ℕ, ◌*◌, ◌<◌}
 use Rattle.drawings.specs.declared.drawing.Drawing.{Drawing}
 use Rattle.drawing_parts.specs.Parts.{over, elements_of}

@@ -1,5 +1,6 @@
 -- What is made of parts that are not refused. Assumes nothing.
---     Made letter a b s t d  the drawing has just these parts and the operation that the letter names
+--     Built op a b s t d        the drawing has just these parts
+--     Made letter a b s t d     the drawing has just these parts and the operation that the letter names
 -- When parts are refused, `make_refusal`, is passed on from the crate of parts.
 use Rattle.std.specs.Prelude.{◌≡◌, ℕ, Some}
 use Rattle.drawings.specs.declared.drawing.Drawing.{Drawing}

@@ -1,27 +1,51 @@
 // Questions about a drawing, its cells and its packages.
-ghost use Rattle.std.specs.Prelude.{◌≡◌, true};
+ghost use Rattle.std.specs.Prelude.{◌≡◌, ◌+◌, ◌*◌, ◌<◌, true};
 ghost use Rattle.faults.specs.Answers.{Answers};
-ghost use Rattle.drawings.specs.Asking.{IsCell, IsCover, board_refusal, cell_refusal};
-ghost use Rattle.drawings.specs.Drawings.{LawsOf, cells, package_of};
+ghost use Rattle.drawings.specs.Asking.{IsCell, IsCover, board_cause, board_refusal, cell_refusal};
+ghost use Rattle.drawings.specs.Cells.{overlaid};
+ghost use Rattle.drawings.specs.Drawings.{LawsOf, cells, overlay_of, package_of};
 ghost use Rattle.overlays.specs.Packages.{bytes};
 
 use crate::drawing::Drawing;
-use crate::drawing::blocks::{blocks_at, owners_at};
+use crate::drawing::cells::Cells;
 use drawing_parts::Cell;
 use faults::{Call, Cause, Fault, Layer};
 
-// The fault of a question.
-fn refused(call: Call, cause: Cause) -> Fault
-    ensures { (result.cause ≡ cause) × (result.layer ≡ Layer.Drawings) × (result.call ≡ call) }
-{
-    Fault {
-        layer: Layer::Drawings,
-        call,
-        cause,
-    }
-}
-
 impl Drawing {
+    fn cells(&self) -> Cells<'_>
+        ensures overlay { overlaid result ≡ overlay_of self.now }
+        ensures lines { (result.rows.now ≡ self.now.row_lines) × (result.columns.now ≡ self.now.column_lines) }
+    {
+        Cells {
+            operation: self.operation,
+            target: &self.target,
+            source: &self.source,
+            rows: &self.row_lines,
+            columns: &self.column_lines,
+        }
+    }
+
+    // The row and the column of cells in which the cell of this number stands.
+    fn place(&self, call: Call, cell: usize) -> Result<(usize, usize), Fault>
+        ensures { Answers Layer.Drawings call (cell_refusal self.now cell) result (λ v. (v.0 < self.now.row_lines.spans) × (v.1 < self.now.column_lines.spans) × (v.0 * self.now.column_lines.spans + v.1 ≡ cell)) (Unit {0}) }
+    {
+        if cell >= self.cell_count() {
+            return Err(Fault::new(Layer::Drawings, call, Cause::Beyond { index: 0 }));
+        }
+        let across = self.column_lines.spans;
+        Ok((cell / across, cell % across))
+    }
+
+    fn check_board(&self, number: usize) -> Result<(), Fault>
+        ensures { Answers Layer.Drawings Call.Ask (board_cause self.now number) result (λ _. number < self.now.target.boards) (Unit {0}) }
+    {
+        if number < self.target.boards {
+            Ok(())
+        } else {
+            Err(Fault::new(Layer::Drawings, Call::Ask, Cause::Board { number }))
+        }
+    }
+
     // The number of cells, which are numbered row by row.
     pub fn cell_count(&self) -> usize
         ensures value { result ≡ cells self.now }
@@ -41,67 +65,24 @@ impl Drawing {
     pub fn cover(&self, cell: usize) -> Result<(usize, usize), Fault>
         ensures cases { Answers Layer.Drawings Call.Cover (cell_refusal self.now cell) result (λ v. IsCover self.now cell v.0 v.1) (Unit {0}) }
     {
-        if cell >= self.cell_count() {
-            return Err(refused(Call::Cover, Cause::Beyond { index: 0 }));
-        }
-        let (i, j) = (
-            cell / self.column_lines.spans,
-            cell % self.column_lines.spans,
-        );
-        Ok(blocks_at(
-            self.operation,
-            &self.target,
-            &self.source,
-            &self.row_lines,
-            &self.column_lines,
-            i,
-            j,
-        ))
+        let (i, j) = self.place(Call::Cover, cell)?;
+        Ok(self.cells().blocks(i, j))
     }
 
     // The cell's box, role and sender.
     pub fn cell(&self, cell: usize) -> Result<Cell, Fault>
         ensures cases { Answers Layer.Drawings Call.Ask (cell_refusal self.now cell) result (λ v. IsCell self.now cell v) (Unit {0}) }
     {
-        if cell >= self.cell_count() {
-            return Err(refused(Call::Ask, Cause::Beyond { index: 0 }));
-        }
-        let (i, j) = (
-            cell / self.column_lines.spans,
-            cell % self.column_lines.spans,
-        );
-        let (sender, role) = owners_at(
-            self.operation,
-            &self.target,
-            &self.source,
-            &self.row_lines,
-            &self.column_lines,
-            i,
-            j,
-        );
-        let top = self.row_lines.cuts[i] as usize;
-        let left = self.column_lines.cuts[j] as usize;
-        Ok(Cell {
-            top,
-            left,
-            height: self.row_lines.cuts[i + 1] as usize - top,
-            width: self.column_lines.cuts[j + 1] as usize - left,
-            role,
-            sender,
-        })
+        let (i, j) = self.place(Call::Ask, cell)?;
+        Ok(self.cells().cell(i, j))
     }
 
     // How many elements the sender sends for the role.
     pub fn package_elements(&self, sender: usize, role: usize) -> Result<usize, Fault>
         ensures cases { Answers Layer.Drawings Call.Ask (board_refusal self.now sender role) result (λ v. v ≡ package_of self.now sender role) (Unit {0}) }
     {
-        let boards = self.target.boards;
-        if sender >= boards {
-            return Err(refused(Call::Ask, Cause::Board { number: sender }));
-        }
-        if role >= boards {
-            return Err(refused(Call::Ask, Cause::Board { number: role }));
-        }
+        self.check_board(sender)?;
+        self.check_board(role)?;
         Ok(self.packages[sender * 16 + role] as usize)
     }
 

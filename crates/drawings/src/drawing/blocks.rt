@@ -1,36 +1,12 @@
-// The blocks of a cell and their owners, read off the tables.
-ghost use Rattle.std.specs.Prelude.{◌≡◌, ◌+◌, ◌*◌, ◌<◌};
-ghost use Rattle.drawing_parts.specs.Parts.{Drawable, over};
+// A cell, its blocks and their owners, read off the tables.
+ghost use Rattle.std.specs.Prelude.{◌≡◌, ◌+◌, ◌*◌, ◌<◌, ◌≤◌};
+ghost use Rattle.drawings.specs.Cells.{IsCellOf, overlaid};
 ghost use Rattle.layouts.specs.Layouts.{blocks_of, owner_of};
-ghost use Rattle.overlays.specs.Overlays.{role, sender, source_block, target_block};
+ghost use Rattle.overlays.specs.Overlays.{source_block, target_block};
 
-use drawing_parts::Lines;
+use crate::drawing::cells::Cells;
+use drawing_parts::Cell;
 use layouts::Layout;
-use overlays::Operation;
-
-// The blocks of the target and of the source that the cell in row `i` and column `j` of cells lies in.
-pub(crate) fn blocks_at(
-    operation: Operation,
-    target: &Layout,
-    source: &Layout,
-    rows: &Lines,
-    columns: &Lines,
-    i: usize,
-    j: usize,
-) -> (usize, usize)
-    requires drawable { Drawable operation target.now source.now rows.now columns.now }
-    requires inside { (i < rows.now.spans) × (j < columns.now.spans) }
-    ensures target { result.0 ≡ target_block (over operation target.now source.now rows.now columns.now) (i * columns.now.spans + j) }
-    ensures source { result.1 ≡ source_block (over operation target.now source.now rows.now columns.now) (i * columns.now.spans + j) }
-{
-    let (x, y) = (rows.source[i] as usize, columns.source[j] as usize);
-    let down = operation.turned(x, y);
-    let across = operation.turned(y, x);
-    (
-        rows.target[i] as usize * target.column_blocks + columns.target[j] as usize,
-        down * source.column_blocks + across,
-    )
-}
 
 // The board that owns the block.
 fn owner_at(layout: &Layout, block: usize) -> usize
@@ -43,22 +19,39 @@ fn owner_at(layout: &Layout, block: usize) -> usize
     }
 }
 
-// The sender and the role of the cell in row `i` and column `j` of cells.
-pub(crate) fn owners_at(
-    operation: Operation,
-    target: &Layout,
-    source: &Layout,
-    rows: &Lines,
-    columns: &Lines,
-    i: usize,
-    j: usize,
-) -> (usize, usize)
-    requires drawable { Drawable operation target.now source.now rows.now columns.now }
-    requires inside { (i < rows.now.spans) × (j < columns.now.spans) }
-    ensures bound { (result.0 < 16) × (result.1 < 16) }
-    ensures sender { result.0 ≡ sender (over operation target.now source.now rows.now columns.now) (i * columns.now.spans + j) }
-    ensures role { result.1 ≡ role (over operation target.now source.now rows.now columns.now) (i * columns.now.spans + j) }
-{
-    let (t, s) = blocks_at(operation, target, source, rows, columns, i, j);
-    (owner_at(source, s), owner_at(target, t))
+impl Cells<'_> {
+    // The blocks of the target and of the source that the cell in row `i` and column `j` of cells lies in.
+    pub(crate) fn blocks(&self, i: usize, j: usize) -> (usize, usize)
+        requires inside { (i < self.now.rows.now.spans) × (j < self.now.columns.now.spans) }
+        ensures target { result.0 ≡ target_block (overlaid self.now) (i * self.now.columns.now.spans + j) }
+        ensures source { result.1 ≡ source_block (overlaid self.now) (i * self.now.columns.now.spans + j) }
+    {
+        let (row, column) = (self.rows.lines[i], self.columns.lines[j]);
+        let (x, y) = (row.source as usize, column.source as usize);
+        let down = self.operation.turned(x, y);
+        let across = self.operation.turned(y, x);
+        (
+            row.target as usize * self.target.column_blocks + column.target as usize,
+            down * self.source.column_blocks + across,
+        )
+    }
+
+    // The cell in row `i` and column `j` of cells.
+    pub(crate) fn cell(&self, i: usize, j: usize) -> Cell
+        requires inside { (i < self.now.rows.now.spans) × (j < self.now.columns.now.spans) }
+        ensures bound { (result.sender < 16) × (result.role < 16) × (result.height * result.width ≤ 1048576) }
+        ensures cell { IsCellOf (overlaid self.now) (i * self.now.columns.now.spans + j) result }
+    {
+        let top = self.rows.lines[i].at;
+        let left = self.columns.lines[j].at;
+        let (target, source) = self.blocks(i, j);
+        Cell {
+            top: top as usize,
+            left: left as usize,
+            height: (self.rows.lines[i + 1].at - top) as usize,
+            width: (self.columns.lines[j + 1].at - left) as usize,
+            role: owner_at(self.target, target),
+            sender: owner_at(self.source, source),
+        }
+    }
 }

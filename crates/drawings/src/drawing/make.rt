@@ -4,7 +4,7 @@ ghost use Rattle.drawing_parts.specs.Refusals.{make_refusal};
 ghost use Rattle.faults.specs.Answers.{Answers};
 
 use crate::drawing::Drawing;
-use crate::drawing::packages::tally;
+use crate::drawing::cells::Cells;
 use drawing_parts::Parts;
 use faults::{Call, Fault, Layer};
 use layouts::Layout;
@@ -27,7 +27,14 @@ impl Drawing {
             row_lines,
             column_lines,
         } = Parts::new(letter, target, source, source_share, target_share)?;
-        let packages = tally(operation, target, source, &row_lines, &column_lines);
+        let cells = Cells {
+            operation,
+            target,
+            source,
+            rows: &row_lines,
+            columns: &column_lines,
+        };
+        let packages = cells.tally();
         Ok(Drawing {
             operation,
             target: *target,

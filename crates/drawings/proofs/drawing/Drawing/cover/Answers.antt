@@ -1,16 +1,18 @@
-use Rattle.std.proofs.Common.{◌<◌, arith}
-use Rattle.drawings.specs.Drawings.{cells}
-use Rattle.drawings.proofs.Drawings.{drawable, row_in, column_in, asked_cell, is_cover}
+use Rattle.std.proofs.Common.{◌+◌, ◌*◌, ap, ◌∙◌}
+use Rattle.drawings.specs.Drawings.{overlay_of}
+use Rattle.drawings.proofs.Drawings.{is_cover}
 use Rattle.drawings.proofs.drawing.Drawing.cover.Goals as goal
-
-pub blocks_at-requires : goal.blocks_at-requires
-blocks_at-requires c =
-    let d = c.args.self.now in
-    let h : c.args.cell < cells d = omega (arith, c.cell_count.ensures.value) in
-    record { drawable = drawable d; inside = (row_in d c.args.cell h, column_in d c.args.cell h) }
+use Rattle.overlays.specs.Overlays.{source_block, target_block}
 
 pub returns : goal.returns
 returns c =
     let d = c.args.self.now in
-    let h : c.args.cell < cells d = omega (arith, c.cell_count.ensures.value) in
-    record { cases = (asked_cell d c.args.cell h, is_cover d c.args.cell h _ _ c.blocks_at.ensures.target c.blocks_at.ensures.source) }
+    let h = c.in_ok-i.ensures in
+    let cells = c.cells.result in
+    let t = c.blocks-2.ensures.target
+    ∙ (ap (λ o. target_block o (c.in_ok-i.i * cells.columns.now.spans + c.in_ok-i.j)) c.cells.ensures.overlay
+    ∙ ap (λ l. target_block (overlay_of d) (c.in_ok-i.i * l.spans + c.in_ok-i.j)) c.cells.ensures.lines.1) in
+    let s = c.blocks-2.ensures.source
+    ∙ (ap (λ o. source_block o (c.in_ok-i.i * cells.columns.now.spans + c.in_ok-i.j)) c.cells.ensures.overlay
+    ∙ ap (λ l. source_block (overlay_of d) (c.in_ok-i.i * l.spans + c.in_ok-i.j)) c.cells.ensures.lines.1) in
+    record { cases = (h.0, is_cover d c.args.cell _ h.1.2 _ _ t s) }

@@ -1,0 +1,50 @@
+use Rattle.std.proofs.Common.{sym, ap, ◌∙◌, arith}
+use Rattle.drawings.proofs.Drawings.{area_at, bottom_at, left_at, package_few, right_at, role_few, sender_few, source_in, tall_at, target_in, top_at, wide_at}
+use Rattle.drawings.proofs.drawing.cells.Cells.cell.Goals as goal
+use Rattle.layouts.specs.Layouts.{owner_of}
+
+pub overflow_sub-result : goal.overflow_sub-result
+overflow_sub-result c =
+    let s = c.args.self.now in
+    omega (arith, tall_at s.operation s.target.now s.source.now s.rows.now s.columns.now s.drawable c.args.i c.args.j c.requires.inside.0 c.requires.inside.1)
+
+pub overflow_sub-result-2 : goal.overflow_sub-result-2
+overflow_sub-result-2 c =
+    let s = c.args.self.now in
+    omega (arith, wide_at s.operation s.target.now s.source.now s.rows.now s.columns.now s.drawable c.args.i c.args.j c.requires.inside.0 c.requires.inside.1)
+
+pub owner_at-requires : goal.owner_at-requires
+owner_at-requires c =
+    let s = c.args.self.now in
+    omega (arith, c.blocks-target.ensures.target, target_in s.operation s.target.now s.source.now s.rows.now s.columns.now s.drawable c.args.i c.args.j c.requires.inside.0 c.requires.inside.1)
+
+pub owner_at-requires-2 : goal.owner_at-requires-2
+owner_at-requires-2 c =
+    let s = c.args.self.now in
+    omega (arith, c.blocks-target.ensures.source, source_in s.operation s.target.now s.source.now s.rows.now s.columns.now s.drawable c.args.i c.args.j c.requires.inside.0 c.requires.inside.1)
+
+pub returns-clause-bound : goal.returns-clause-bound
+returns-clause-bound c =
+    let s = c.args.self.now in
+    let role = c.owner_at.ensures ∙ ap (owner_of s.target.now) c.blocks-target.ensures.target in
+    let sender = c.owner_at-2.ensures ∙ ap (owner_of s.source.now) c.blocks-target.ensures.source in (
+      omega (arith, sender, sender_few s.operation s.target.now s.source.now s.rows.now s.columns.now s.drawable c.args.i c.args.j c.requires.inside.0 c.requires.inside.1),
+      omega (arith, role, role_few s.operation s.target.now s.source.now s.rows.now s.columns.now s.drawable c.args.i c.args.j c.requires.inside.0 c.requires.inside.1),
+      omega (arith, area_at s.operation s.target.now s.source.now s.rows.now s.columns.now s.drawable c.args.i c.args.j c.requires.inside.0 c.requires.inside.1, package_few s.operation s.target.now s.source.now s.rows.now s.columns.now s.drawable c.args.i c.args.j c.requires.inside.0 c.requires.inside.1),
+    )
+
+pub returns-clause-cell : goal.returns-clause-cell
+returns-clause-cell c =
+    let s = c.args.self.now in
+    let t = top_at s.operation s.target.now s.source.now s.rows.now s.columns.now s.drawable c.args.i c.args.j c.requires.inside.0 c.requires.inside.1 in
+    let b = bottom_at s.operation s.target.now s.source.now s.rows.now s.columns.now s.drawable c.args.i c.args.j c.requires.inside.0 c.requires.inside.1 in
+    let l = left_at s.operation s.target.now s.source.now s.rows.now s.columns.now s.drawable c.args.i c.args.j c.requires.inside.0 c.requires.inside.1 in
+    let r = right_at s.operation s.target.now s.source.now s.rows.now s.columns.now s.drawable c.args.i c.args.j c.requires.inside.0 c.requires.inside.1 in
+    record {
+      top = sym t;
+      left = sym l;
+      height = omega (arith, t, b);
+      width = omega (arith, l, r);
+      role = c.owner_at.ensures ∙ ap (owner_of s.target.now) c.blocks-target.ensures.target;
+      sender = c.owner_at-2.ensures ∙ ap (owner_of s.source.now) c.blocks-target.ensures.source;
+    }
