@@ -1,2 +1,6 @@
 pub mod BackAgain
-pub mod Contents
+pub mod OneSheet
+pub mod Pasting
+pub mod ReadBack
+pub mod Refusals
+pub mod SheetRead

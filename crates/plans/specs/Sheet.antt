@@ -2,17 +2,16 @@
 --     sheet p             the text of plan p: n and the bill, then a line for each number x below n
 --     Legal p             every number of p is in its limits: such plans have a sheet
 --     SheetOf p bs        the relation between a legal plan and its text
+--     LinesRead bs n b p  p holds what the lines of bs say, for n boards and with bill b
 --     write_refusal p k   why p is not written to a buffer of k bytes: 2, then 11, then 16 for the first number beyond its limits
 --     Written p before k after    k bytes of the buffer hold the sheet of p now, and the rest is as it was
---     content p           what the sheet of plan p says: the plan's own count, bill and lines
 -- The limits, the text of a line, and when reading a sheet is refused, are defined in the crate of sheets.
-use Rattle.std.specs.Prelude.{◌≡◌, ℕ, ◌<◌, ◌≤◌, cond, ◌&&◌, List, ◌++◌, take, drop, Some, Option, nat_le}
+use Rattle.std.specs.Prelude.{◌≡◌, ℕ, ◌*◌, ◌<◌, ◌≤◌, cond, ◌&&◌, List, ◌++◌, take, drop, Some, None, Option, nat_le}
 use Rattle.faults.specs.declared.cause.Cause.{Cause}
 use Rattle.faults.specs.declared.cause.Cause.TheVariants.{Board, Length, Field}
 use Rattle.plans.specs.Plans.{line_of}
 use Rattle.plans.specs.declared.plan.Plan.{Plan}
-use Rattle.sheets.specs.declared.content.Content.{Content}
-use Rattle.sheets.specs.Sheet.{LegalLine, first_line, lines_text, wrong_line}
+use Rattle.sheets.specs.Sheet.{LegalLine, first_illegal, first_line, lines_fields, lines_text, part, wrong_line}
 pub use Rattle.sheets.specs.Sheet.{read_refusal, sheet_length}
 
 unfoldable pub sheet : Plan → List ℕ
@@ -28,6 +27,14 @@ pub record SheetOf (p : Plan) (bs : List ℕ) : Type 0 where
   pub legal : Legal p
   pub is : bs ≡ sheet p
 
+-- p holds what the lines of bs say, all of them legal
+pub record LinesRead (bs : List ℕ) (n b : ℕ) (p : Plan) : Type 0 where
+  pub boards : p.boards ≡ n
+  pub bill : p.bill ≡ b
+  pub none : first_illegal bs (lines_fields n 0 n) ≡ None
+  pub legal : (x : ℕ) → x < n → LegalLine n (line_of p x)
+  pub is : part bs 25 (49 * n) ≡ lines_text 0 (take n p.lines)
+
 abbrev pub wrong_number : Plan → Option Cause
 wrong_number p = cond (nat_le p.bill 281474976710656) (wrong_line p.boards 0 (take p.boards p.lines)) (Some (Field 1 5))
 
@@ -42,6 +49,3 @@ pub record Written (p : Plan) (before : List ℕ) (k : ℕ) (after : List ℕ) :
   pub legal : Legal p
   pub len : k ≡ sheet_length p.boards
   pub is : after ≡ sheet p ++ drop k before
-
-abbrev pub content : Plan → Content
-content p = record { boards = p.boards; bill = p.bill; lines = p.lines; sized = p.sized; rest = p.rest }

@@ -12,7 +12,7 @@ use faults::Fault;
 pub const SHEET: usize = 809;
 
 // Reads a sheet and writes the sheet of its plan to the front of the buffer: the same bytes.
-pub fn echo(bytes: &[u8], buffer: &mut [u8; 809]) -> Result<usize, Fault>
+pub fn echo(bytes: &[u8], buffer: &mut [u8; SHEET]) -> Result<usize, Fault>
     ensures answer { Answers Layer.Plans Call.Read (read_refusal bytes.now) result (λ k. (k ≡ length bytes.now) × (buffer.new ≡ bytes.now ++ drop k buffer.old)) (buffer.new ≡ buffer.old) }
     ensures bound { IfOk result (λ k. k ≤ 809) }
 {

@@ -1,14 +1,13 @@
 -- Texts that are put side by side.
-use Rattle.std.proofs.Common.{◌≡◌, ℕ, ◌+◌, ◌*◌, ◌^◌, ◌<◌, ◌≤◌, List, [], ◌∷◌, ◌++◌, length, get_or, take, drop, set, ℤ, pos, nat_abs, sym, refl, ap, ◌∙◌, append_assoc, add-zero, zero-add, arith, length-append}
+use Rattle.std.proofs.Common.{◌≡◌, ℕ, ◌+◌, ◌*◌, ◌^◌, ◌<◌, ◌≤◌, List, [], ◌∷◌, ◌++◌, length, get_or, take, set, ℤ, pos, nat_abs, sym, refl, ap, ◌∙◌, append_assoc, add-zero, arith, length-append}
 use lib.Seq.{paste}
-use Rattle.std.proofs.lemmas.List.Edits.{paste_none, paste_more, paste-paste, paste_all}
+use Rattle.std.proofs.lemmas.List.Edits.{paste_none, paste_more, paste-paste}
 use Rattle.std.proofs.lemmas.List.{length-take-le, take_more}
 use Rattle.std.proofs.lemmas.Int.{ints}
 use Rattle.sheets.specs.Lines.{blank}
-use Rattle.sheets.specs.Sheet.{Legal, LegalLine, first_line, line_text, lines_text, sheet, sheet_length}
+use Rattle.sheets.specs.Sheet.{LegalLine, first_line, line_text, lines_text}
 use Rattle.sheets.specs.Text.{text}
 use Rattle.sheets.specs.declared.line.Line.{Line}
-use Rattle.sheets.specs.declared.content.Content.{Content}
 use Rattle.sheets.proofs.Fields.{length-text, room_small, room_wide, price_small}
 use Rattle.sheets.proofs.LinesRead.{lines_push}
 
@@ -90,17 +89,3 @@ lines_put d b c n x lines inside x_few n_few sized legal p l q =
     )
 
 -- the first line and the others make the sheet, and what follows it is as before
-pub sheet_put : (d b c : List ℕ) (p : Content) → Legal p → b ≡ paste d 0 (first_line p.boards p.bill) 25
-    → c ≡ paste b 25 (lines_text 0 (take p.boards p.lines)) (49 * p.boards)
-    → 49 * p.boards ≡ length (lines_text 0 (take p.boards p.lines))
-    → c ≡ sheet p ++ drop (sheet_length p.boards) d
-unfolding sheet
-sheet_put d b c p legal p₁ p₂ long =
-    let first = first_line p.boards p.bill in
-    let lines = lines_text 0 (take p.boards p.lines) in
-    let l₁ : 25 ≡ length first = long_next 4 21 _ _ (long_small p.boards (omega (arith, legal.few)))
-    (long_next 20 1 _ _ (long_wide (pos p.bill) (omega (arith, legal.bill))) refl) in
-    let whole : sheet_length p.boards ≡ length (first ++ lines) = long_next 25 (49 * p.boards) first lines l₁ long in
-    put_next d b c 0 25 25 (49 * p.boards) first lines p₁ p₂ l₁ long refl (omega arith)
-    ∙ paste_all d 0 (first ++ lines) (sheet_length p.boards) whole
-    ∙ ap (λ i. (first ++ lines) ++ drop i d) (zero-add (sheet_length p.boards))

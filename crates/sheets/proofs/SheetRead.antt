@@ -1,16 +1,14 @@
 -- A whole sheet, read field by field.
-use Rattle.std.proofs.Common.{◌≡◌, ℕ, ◌+◌, ◌*◌, ◌<◌, ◌≤◌, true, false, List, [], ◌∷◌, ◌++◌, length, take, drop, ℤ, pos, negsuc, nat_abs, ◌≤ℤ◌, Some, None, sym, refl, ap, ◌∙◌, arith, length-drop, length-take, w64, to_z, of_z}
+use Rattle.std.proofs.Common.{◌≡◌, ℕ, ◌+◌, ◌<◌, ◌≤◌, true, false, List, [], ◌∷◌, ◌++◌, length, take, drop, ℤ, pos, negsuc, nat_abs, ◌≤ℤ◌, Some, None, sym, refl, ap, ◌∙◌, arith, length-drop, length-take, w64, to_z, of_z}
 use Rattle.std.proofs.lemmas.Slice.Eq.{bytes_eq-Decides}
 use Rattle.std.proofs.lemmas.List.{take_all, drop_all}
 use Rattle.std.proofs.lemmas.Int.{ints, to_z_pos}
 use Rattle.std.specs.Str.{bytes_eq}
 use Rattle.faults.specs.declared.cause.Cause.{Cause}
 use Rattle.faults.specs.declared.cause.Cause.TheVariants.{Field}
-use Rattle.sheets.specs.Sheet.{bill_high, sheet, sheet_length, first_line, lines_text, LinesRead, part, first_illegal, fields, lines_fields, end_field, read_refusal}
-use Rattle.sheets.specs.Text.{reads, text}
-use Rattle.sheets.specs.declared.content.Content.{Content}
+use Rattle.sheets.specs.Sheet.{bill_high, sheet_length, part, first_illegal, fields, lines_fields, end_field, read_refusal}
+use Rattle.sheets.specs.Text.{reads}
 use Rattle.sheets.proofs.Fields.{same_no}
-use Rattle.sheets.proofs.LineFields.{part_join}
 use Rattle.sheets.proofs.LinesRead.{illegal_after, illegal_before}
 
 pub count_fails : (bs : List ℕ) → None ≡ reads 4 (pos 1) (pos 16) (part bs 0 4) → read_refusal bs ≡ Some (Field 1 1)
@@ -52,19 +50,6 @@ module _ (bs : List ℕ) (n : ℕ) (count : Some (pos n) ≡ reads 4 (pos 1) (po
           (bytes_eq-Decides [] (part bs (sheet_length n) (length bs))).1
           (sym (ap (take (length bs)) (drop_all (sheet_length n) bs short) ∙ take_all (length bs) [] (omega arith))) in
           lines_stand e ∙ rw none refl
-
-      -- the bytes are the text of what was read
-      pub bytes_are : (b : ℕ) (p : Content) → z ≡ pos b → part bs 0 4 ≡ text 4 (pos n) → part bs 4 20 ≡ text 20 z → LinesRead bs n b p → length bs ≤ sheet_length n
-          → bs ≡ sheet p
-      unfolding sheet
-      bytes_are b p same first second lines short =
-          let end : part bs 24 1 ≡ 10 ∷ [] = sym ((bytes_eq-Decides (10 ∷ []) (part bs 24 1)).0 (sym ends)) in
-          let bill_is : part bs 4 20 ≡ text 20 (pos p.bill) = second ∙ ap (text 20) (same ∙ ap pos (sym lines.bill)) in
-          let count-is : part bs 0 4 ≡ text 4 (pos p.boards) = first ∙ ap (λ i. text 4 (pos i)) (sym lines.boards) in
-          let body : part bs 25 (49 * n) ≡ lines_text 0 (take p.boards p.lines) = lines.is ∙ ap (λ i. lines_text 0 (take i p.lines)) (sym lines.boards) in
-          let head : part bs 0 25 ≡ first_line p.boards p.bill =
-          part_join bs 0 4 21 ∙ ap (λ t. part bs 0 4 ++ t) (part_join bs 4 20 1) ∙ rw (count-is, bill_is, end) refl in
-          sym (take_all (sheet_length n) bs short) ∙ part_join bs 0 25 (49 * n) ∙ rw (head, body) refl
 
 -- a bill in its limits is a natural number
 pub bill_natural : (z : ℤ) → pos 0 ≤ℤ z → z ≤ℤ bill_high → (z ≡ pos (nat_abs (to_z w64 (of_z w64 z)))) × (nat_abs (to_z w64 (of_z w64 z)) ≤ 281474976710656)

@@ -1,4 +1,3 @@
-pub mod Contents
 pub mod Lines
 pub mod Sheet
 pub mod Text

@@ -1,19 +1,17 @@
--- The sheet that a plan is written as, and what is refused. Assumes nothing.
---     sheet p             the text of plan p: n and the bill, then a line for each number x below n
---     Legal p             every number of p is in its limits: such plans have a sheet
---     SheetOf p bs       the relation between a legal plan and its text
+-- The text of a plan's sheet, field by field, and which fields are legal. Assumes nothing.
+--     first_line n b      the first line: n and the bill b
+--     lines_text x ls     the lines ls from number x on
+--     LegalLine n l       every number of the line l is in its limits for n boards
 --     fields n            the fields of a sheet for n boards after its first one, from left to right and from top to bottom;
 --                         a line end is a field, and so is whatever follows the last line
 --     read_refusal bs     16 with line and column of the first field of bs that is not legal
---     write_refusal p k   why p is not written to a buffer of k bytes: 2, then 11, then 16 for the first number beyond its limits
-use Rattle.std.specs.Prelude.{◌≡◌, ℕ, zero, suc, ◌+◌, ◌-◌, ◌*◌, ◌<◌, ◌≤◌, Bool, true, cond, ◌&&◌, List, [], ◌∷◌, ◌++◌, length, take, drop, ℤ, pos, negsuc, is_some, Some, None, Option, nat_le, nat_lt}
+--     wrong_line n x ls   16 with line and column of the first number beyond its limits, in the lines ls from number x on
+use Rattle.std.specs.Prelude.{◌≡◌, ℕ, zero, suc, ◌+◌, ◌-◌, ◌*◌, ◌<◌, Bool, true, cond, List, [], ◌∷◌, ◌++◌, length, take, drop, ℤ, pos, negsuc, is_some, Some, None, Option, nat_lt}
 use Rattle.std.specs.Str.{bytes_eq}
 use Rattle.faults.specs.declared.cause.Cause.{Cause}
-use Rattle.faults.specs.declared.cause.Cause.TheVariants.{Board, Length, Field}
-use Rattle.sheets.specs.Contents.{line_of}
+use Rattle.faults.specs.declared.cause.Cause.TheVariants.{Field}
 use Rattle.sheets.specs.Text.{text, reads, within}
 use Rattle.sheets.specs.declared.line.Line.{Line}
-use Rattle.sheets.specs.declared.content.Content.{Content}
 
 -- The limits. A cabinet has 1 to 16 boards.
 
@@ -48,21 +46,8 @@ first_line n bill = text 4 (pos n) ++ (text 20 (pos bill) ++ 10 ∷ [])
 abbrev pub sheet_length : ℕ → ℕ
 sheet_length n = 25 + 49 * n
 
-unfoldable pub sheet : Content → List ℕ
-sheet p = first_line p.boards p.bill ++ lines_text 0 (take p.boards p.lines)
-
 abbrev pub LegalLine : ℕ → Line → Type 0
 LegalLine n l = (l.board < n) × (within price_low price_high l.u ≡ true) × (within price_low price_high l.v ≡ true)
-
-pub record Legal (p : Content) : Type 0 where
-  pub some : 1 ≤ p.boards
-  pub few : p.boards ≤ 16
-  pub bill : p.bill ≤ 281474976710656
-  pub lines : (x : ℕ) → x < p.boards → LegalLine p.boards (line_of p x)
-
-pub record SheetOf (p : Content) (bs : List ℕ) : Type 0 where
-  pub legal : Legal p
-  pub is : bs ≡ sheet p
 
 -- Reading.
 
@@ -116,14 +101,6 @@ fields bs n =
     ∷ fixed_field 1 25 24 1 (10 ∷ [])
     ∷ (lines_fields n 0 n ++ end_field bs n ∷ [])
 
--- p holds what the lines of bs say, all of them legal
-pub record LinesRead (bs : List ℕ) (n b : ℕ) (p : Content) : Type 0 where
-  pub boards : p.boards ≡ n
-  pub bill : p.bill ≡ b
-  pub none : first_illegal bs (lines_fields n 0 n) ≡ None
-  pub legal : (x : ℕ) → x < n → LegalLine n (line_of p x)
-  pub is : part bs 25 (49 * n) ≡ lines_text 0 (take n p.lines)
-
 -- the count of boards that the first field names decides which fields follow
 abbrev pub read_by : List ℕ → Option ℤ → Option Cause
 read_by bs None = Some (Field 1 1)
@@ -150,18 +127,3 @@ wrong_or x (Some column) later = Some (Field (x + 2) column)
 abbrev pub wrong_line : ℕ → ℕ → List Line → Option Cause
 wrong_line n x [] = None
 wrong_line n x (l ∷ ls) = wrong_or x (wrong_column n l) (wrong_line n (x + 1) ls)
-
-abbrev pub wrong_number : Content → Option Cause
-wrong_number p = cond (nat_le p.bill 281474976710656) (wrong_line p.boards 0 (take p.boards p.lines)) (Some (Field 1 5))
-
-unfoldable pub write_refusal : Content → ℕ → Option Cause
-write_refusal p k =
-    cond (nat_le 1 p.boards && nat_le p.boards 16)
-    (cond (nat_le (sheet_length p.boards) k) (wrong_number p) (Some (Length (sheet_length p.boards))))
-    (Some (Board p.boards))
-
--- k bytes of the buffer hold the sheet of p now, and the rest is as it was
-pub record Written (p : Content) (before : List ℕ) (k : ℕ) (after : List ℕ) : Type 0 where
-  pub legal : Legal p
-  pub len : k ≡ sheet_length p.boards
-  pub is : after ≡ sheet p ++ drop k before

@@ -1,14 +1,7 @@
-// The sheets that plans are written as: the reader and the writer.
+// What sheets are made of: their lines and the limits of their numbers, with the text of each field.
 #![tactic(auto)]
 
-mod columns;
-pub mod content;
-mod field;
 pub mod limits;
 pub mod line;
-mod numeral;
-pub mod reading;
-pub mod writing;
 
-pub use content::Content;
 pub use line::Line;

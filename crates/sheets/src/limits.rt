@@ -1,5 +1,8 @@
 // The limits of a sheet's numbers.
 
+// The most boards that a cabinet has.
+pub const BOARDS: usize = 16;
+
 // The largest price; the least is as much below zero.
 pub const PRICE: i64 = 1_125_899_906_842_624;
 

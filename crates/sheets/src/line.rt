@@ -1,6 +1,6 @@
 // What a plan says of one number x, as a role and as a board.
 
-#[derive(Clone, Copy, PartialEq, Eq, Debug)]
+#[derive(Clone, Copy, PartialEq, Eq, Debug, Default)]
 pub struct Line {
     // The board that takes role x.
     pub board: usize,
@@ -9,10 +9,3 @@ pub struct Line {
     // The price of board x.
     pub v: i64,
 }
-
-// A line that says nothing.
-pub const BLANK: Line = Line {
-    board: 0,
-    u: 0,
-    v: 0,
-};

@@ -1,14 +1,12 @@
-use Rattle.std.proofs.Common.{length, sym, ◌∙◌, arith}
-use Rattle.plans.proofs.Contents.{refusal_same}
+use Rattle.std.proofs.Common.{length, arith}
 use Rattle.plans.proofs.BackAgain.{front_is, back_again}
-use Rattle.plans.specs.Sheet.{content}
-use Rattle.sheets.proofs.Refusals.{legal_from_none}
+use Rattle.plans.proofs.Refusals.{legal_from_none}
 use Rattle.plans.proofs.plan.Plan.read_back.Goals as goal
 
 pub slice_bounds-read-end : goal.slice_bounds-read-end
 slice_bounds-read-end c =
     let w = c.in_ok-len.ensures in
-    let room = (legal_from_none (content c.args.self.now) (length c.args.buffer.now) (sym (refusal_same c.args.self.now (length c.args.buffer.now)) ∙ w.0)).1 in
+    let room = (legal_from_none c.args.self.now (length c.args.buffer.now) w.0).1 in
     omega (arith, w.1.len, room)
 
 pub returns : goal.returns
