@@ -1,4 +1,7 @@
 -- Why a call of a link is refused, if it is: the first line that applies gives the cause. Assumes nothing.
+--     board_refusal n board              a call for a board, of n
+--     frame_refusal len                  a put of len words
+--     buffer_refusal room                a look into a buffer of room words
 --     put_refusal n open board len       a put of len words to a board, of n, that is open or not
 --     look_refusal n board room waiting  a look at what waits for a board, into a buffer of room words
 --     drop_refusal n board waiting       a drop of the oldest frame that waits for a board
@@ -7,6 +10,15 @@ use Rattle.std.specs.Prelude.{ℕ, Bool, cond, not, ◌&&◌, List, Some, None, 
 use Rattle.faults.specs.declared.cause.Cause.{Cause}
 use Rattle.faults.specs.declared.cause.Cause.TheVariants.{Board, Length, Nothing, Closed}
 use Rattle.links.specs.Frames.{most_boards, most_words, most_entry, none_waits}
+
+abbrev pub board_refusal : ℕ → ℕ → Option Cause
+board_refusal n board = cond (not (nat_lt board n)) (Some (Board board)) None
+
+abbrev pub frame_refusal : ℕ → Option Cause
+frame_refusal len = cond (not (nat_le 1 len && nat_le len most_words)) (Some (Length most_words)) None
+
+abbrev pub buffer_refusal : ℕ → Option Cause
+buffer_refusal room = cond (nat_lt room most_words) (Some (Length most_words)) None
 
 abbrev pub put_refusal : ℕ → Bool → ℕ → ℕ → Option Cause
 put_refusal n is_open board len =

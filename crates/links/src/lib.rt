@@ -1,8 +1,7 @@
-// What carries frames between the boards: the trait of every link.
+// What carries frames between the boards: the trait of every link, and the checks that links share.
 #![tactic(auto)]
 
+pub mod checks;
 pub mod link;
-pub mod refusal;
 
 pub use link::Link;
-pub use refusal::fault;
