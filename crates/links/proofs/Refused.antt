@@ -7,7 +7,7 @@ use Rattle.faults.specs.declared.fault.Call.{Call}
 use Rattle.faults.specs.declared.fault.Fault.{Fault}
 use Rattle.faults.specs.declared.fault.Layer.{Layer}
 use Rattle.links.specs.Frames.{none_waits}
-use Rattle.links.specs.Refusals.{put_refusal, look_refusal, drop_refusal}
+use Rattle.links.specs.Refusals.{board_refusal, frame_refusal, buffer_refusal, put_refusal, look_refusal, drop_refusal}
 
 pub put_open : (n board len : ℕ) (o : Bool) → board < n → 1 ≤ len → len ≤ 64 → o ≡ true → put_refusal n o board len ≡ None
 put_open n board len o h1 h2 h3 h4 = grind (arith, nat_tests)
@@ -31,3 +31,13 @@ drop_none n board fs h1 h2 = grind (arith, nat_tests)
 pub refused_by : {Same : Type 0} (o : Option Cause) (f : Fault) (l : Layer) (k : Call) (w : Cause) → o ≡ Some w
     → f ≡ record { layer = l; call = k; cause = w } → Same → (o ≡ Some f.cause) × (f.layer ≡ l) × (f.call ≡ k) × Same
 refused_by o f l k w p e same = (p ∙ ap (λ (g : Fault). Some g.cause) (sym e), ap (λ (g : Fault). g.layer) e, ap (λ (g : Fault). g.call) e, same)
+
+-- what the shared checks let pass
+pub board_kept : (n board : ℕ) → board_refusal n board ≡ None → board < n
+board_kept n board e = grind (arith, nat_tests)
+
+pub frame_kept : (len : ℕ) → frame_refusal len ≡ None → (1 ≤ len) × (len ≤ 64)
+frame_kept len e = (grind (arith, nat_tests), grind (arith, nat_tests))
+
+pub buffer_kept : (room : ℕ) → buffer_refusal room ≡ None → 64 ≤ room
+buffer_kept room e = grind (arith, nat_tests)

@@ -11,26 +11,25 @@ ghost use Rattle.buses.specs.Carried.{quiet_unused};
 
 use crate::bus::{Bus, MOST_ENTRY, Refusal};
 use crate::entries;
-use faults::{Call, Cause, Fault};
-use links::link::{MOST_BOARDS, MOST_WORDS};
-use links::{Link, fault};
+use faults::{Call, Cause, Fault, Layer};
+use links::Link;
+use links::checks::{check_board, check_buffer, check_count, check_frame};
 
 impl Bus {
     // An empty bus for 1 to 16 boards, over a list of at least 66 words.
     pub fn new(boards: usize, words: Vec<u32>) -> Result<Bus, Refusal>
         ensures answer { Made boards words result }
     {
-        if boards < 1 || boards > MOST_BOARDS {
-            return Err(Refusal {
-                words,
-                fault: fault(Call::Make, Cause::Board { number: boards }),
-            });
+        if let Err(fault) = check_count(boards) {
+            return Err(Refusal { words, fault });
         }
         if words.len() < MOST_ENTRY {
-            return Err(Refusal {
-                words,
-                fault: fault(Call::Make, Cause::Length { due: MOST_ENTRY }),
-            });
+            let fault = Fault::new(
+                Layer::Links,
+                Call::Make,
+                Cause::Length { due: MOST_ENTRY },
+            );
+            return Err(Refusal { words, fault });
         }
         Ok(Bus {
             boards,
@@ -82,14 +81,10 @@ impl Link for Bus {
         ensures answer { Put (λ (s : Bus). s.boards) queue roomy self.old board frame.now result self.new }
         ensures capacity { vec_len self.new.words ≡ vec_len self.old.words }
     {
-        if board >= self.boards {
-            return Err(fault(Call::Put, Cause::Board { number: board }));
-        }
-        if frame.len() < 1 || frame.len() > MOST_WORDS {
-            return Err(fault(Call::Put, Cause::Length { due: MOST_WORDS }));
-        }
+        check_board(Call::Put, board, self.boards)?;
+        check_frame(frame)?;
         if self.room() < MOST_ENTRY {
-            return Err(fault(Call::Put, Cause::Closed { board }));
+            return Err(Fault::new(Layer::Links, Call::Put, Cause::Closed { board }));
         }
         let used = self.used;
         entries::write(&mut self.words, used, board as u32, frame);
@@ -98,15 +93,11 @@ impl Link for Bus {
     }
 
     fn look(&self, board: usize, buffer: &mut [u32]) -> Result<usize, Fault> {
-        if board >= self.boards {
-            return Err(fault(Call::Look, Cause::Board { number: board }));
-        }
-        if buffer.len() < MOST_WORDS {
-            return Err(fault(Call::Look, Cause::Length { due: MOST_WORDS }));
-        }
+        check_board(Call::Look, board, self.boards)?;
+        check_buffer(buffer)?;
         let log = &self.words[0..self.used];
         let Some(at) = entries::find(log, board as u32) else {
-            return Err(fault(Call::Look, Cause::Nothing { board }));
+            return Err(Fault::new(Layer::Links, Call::Look, Cause::Nothing { board }));
         };
         Ok(entries::copy(log, at, buffer))
     }
@@ -115,12 +106,10 @@ impl Link for Bus {
         ensures answer { Drop (λ (s : Bus). s.boards) queue self.old board result self.new }
         ensures capacity { vec_len self.new.words ≡ vec_len self.old.words }
     {
-        if board >= self.boards {
-            return Err(fault(Call::Drop, Cause::Board { number: board }));
-        }
+        check_board(Call::Drop, board, self.boards)?;
         let used = self.used;
         let Some(at) = entries::find(&self.words[0..used], board as u32) else {
-            return Err(fault(Call::Drop, Cause::Nothing { board }));
+            return Err(Fault::new(Layer::Links, Call::Drop, Cause::Nothing { board }));
         };
         self.used = entries::remove(&mut self.words, used, at);
         Ok(())

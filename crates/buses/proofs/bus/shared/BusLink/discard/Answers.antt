@@ -5,7 +5,7 @@ use Rattle.buses.specs.Entries.{Found}
 use Rattle.buses.specs.declared.bus.Bus.{Bus}
 use Rattle.buses.specs.Carried.{found_waits}
 use Rattle.buses.proofs.Refilled.{drop_kept, drop_lists}
-use Rattle.links.proofs.Refused.{drop_some}
+use Rattle.links.proofs.Refused.{drop_some, board_kept}
 use Rattle.buses.proofs.bus.shared.BusLink.discard.Goals as goal
 
 -- what was found in the lent part of the list is found in the log
@@ -42,6 +42,6 @@ returns c =
     let ws = c.remove-self.new.words in
     let len : length ws ≡ s.words.len = c.remove-self.auto.words ∙ c.deref_mut.ensures.len in
     let x = in_log s c.deref.result.now b c.in-Some.at c.deref.ensures.value c.in-Some.ensures in
-    let p = drop_some s.boards b (queue s b) (omega arith) (found_waits b (log s) c.in-Some.at x) in
+    let p = drop_some s.boards b (queue s b) (board_kept s.boards b c.in_ok-check_board.ensures.answer.0) (found_waits b (log s) c.in-Some.at x) in
     let lists = drop_lists s c.deref_mut.result.now ws c.deref_mut.ensures.value len b c.in-Some.at c.remove-self.result x c.remove-self.ensures.after in
     record { answer = (p, record { count = refl; lists = lists }); capacity = refl }

@@ -3,7 +3,7 @@ use Rattle.buses.specs.Buses.{log, queue}
 use Rattle.buses.specs.Entries.{Found}
 use Rattle.buses.specs.Carried.{found_waits, found_looked}
 use Rattle.buses.proofs.Refilled.{bus_whole}
-use Rattle.links.proofs.Refused.{look_some}
+use Rattle.links.proofs.Refused.{look_some, board_kept, buffer_kept}
 use Rattle.buses.proofs.bus.shared.BusLink.look.Goals as goal
 
 pub returns : goal.returns
@@ -20,5 +20,5 @@ returns c =
     let x : Found b (log s) at = subst (λ (t : List ℕ). Found b t at) is c.in-Some.ensures in
     let size : len ≡ get_or (log s) (at + 1) 0 = subst (λ (t : List ℕ). len ≡ get_or t (at + 1) 0) is c.copy.ensures.size in
     let copied : after ≡ take len (drop (at + 2) (log s)) ++ drop len room = subst (λ (t : List ℕ). after ≡ take len (drop (at + 2) t) ++ drop len room) is c.copy.ensures.copied in
-    let p = look_some s.boards b (length room) (queue s b) (omega arith) (omega arith) (found_waits b (log s) at x) in
+    let p = look_some s.boards b (length room) (queue s b) (board_kept s.boards b c.in_ok-check_board.ensures.answer.0) (buffer_kept (length room) c.in_ok-check_buffer.ensures.answer.0) (found_waits b (log s) at x) in
     record { answer = (p, found_looked s.boards b at (log s) (bus_whole s) x len room after size copied) }
