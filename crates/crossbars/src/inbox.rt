@@ -1,15 +1,15 @@
 // One board's inbox: at most one frame.
-ghost use Rattle.std.specs.Prelude.{◌≡◌, ℕ, ◌≤◌, length};
+ghost use Rattle.std.specs.Prelude.{ℕ, ◌≤◌};
+ghost use Rattle.arrayvec.specs.ArrayVec.{array_vec_len};
 
+use arrayvec::ArrayVec;
 use links::link::MOST_WORDS;
 
-#[derive(Clone, Copy)]
+#[derive(Drop)]
 pub(crate) struct Inbox {
-    words: [u32; MOST_WORDS],
-    // How many words the frame has; 0 where the inbox is empty.
-    used: usize,
-    ghost fits: { used ≤ 64 },
-    ghost sized: { length words ≡ 64 },
+    // The words of the frame; none where the inbox is empty.
+    words: ArrayVec<u32, MOST_WORDS>,
+    ghost fits: { array_vec_len words ≤ 64 },
 }
 
 pub mod access;

@@ -2,6 +2,7 @@
 ghost use Rattle.std.specs.Prelude.{◌≤◌};
 
 use faults::{Call, Cause, Fault, Layer};
+use std::array;
 
 // A frame goes by its number, from which its words follow.
 #[derive(Clone, Copy, Drop)]
@@ -17,11 +18,7 @@ pub(crate) enum Kind {
 }
 
 pub(crate) fn fault(call: Call, cause: Cause) -> Fault {
-    Fault {
-        layer: Layer::Links,
-        call,
-        cause,
-    }
+    Fault::new(Layer::Links, call, cause)
 }
 
 // How many words the frame of a number has: 1 to 64.
@@ -37,32 +34,20 @@ pub(crate) fn word(number: u32, i: usize) -> u32 {
 
 // The words of a frame, and more behind them.
 pub(crate) fn words_of(number: u32) -> [u32; 64] {
-    let mut words = [0; 64];
-    for (i, w) in words.iter_mut().enumerate() {
-        *w = word(number, i);
-    }
-    words
+    array::from_fn(|i| word(number, i))
 }
 
 // The place of the oldest frame for a board.
 pub(crate) fn oldest(sent: &[Sent], board: usize) -> Option<usize> {
-    for (i, s) in sent.iter().enumerate() {
-        if s.board == board {
-            return Some(i);
-        }
-    }
-    None
+    sent.iter().position(|s| s.board == board)
 }
 
 // Whether the model's link takes a frame for the board.
 pub(crate) fn is_open(kind: Kind, sent: &[Sent], board: usize) -> bool {
     match kind {
         Kind::Bus { words } => {
-            let mut used: usize = 66;
-            for s in sent {
-                used = used.wrapping_add(2).wrapping_add(frame_len(s.number));
-            }
-            used <= words
+            let used: usize = sent.iter().map(|s| 2 + frame_len(s.number)).sum();
+            66 + used <= words
         }
         Kind::Crossbar => oldest(sent, board).is_none(),
     }

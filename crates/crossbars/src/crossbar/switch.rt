@@ -11,21 +11,20 @@ ghost use Rattle.links.specs.Frames.{none_waits};
 
 use crate::crossbar::Crossbar;
 use crate::inbox::Inbox;
-use faults::{Call, Cause, Fault};
-use links::link::{MOST_BOARDS, MOST_WORDS};
-use links::{Link, fault};
+use faults::{Call, Cause, Fault, Layer};
+use links::Link;
+use links::checks::{check_board, check_buffer, check_count, check_frame};
+use std::array;
 
 impl Crossbar {
     // A crossbar for 1 to 16 boards, with every inbox empty.
     pub fn new(boards: usize) -> Result<Crossbar, Fault>
         ensures answer { Answers Links Make (crossbar_refusal boards) result (NewCrossbar boards) (Unit {0}) }
     {
-        if boards < 1 || boards > MOST_BOARDS {
-            return Err(fault(Call::Make, Cause::Board { number: boards }));
-        }
+        check_count(boards)?;
         Ok(Crossbar {
             boards,
-            inboxes: [Inbox::empty(); MOST_BOARDS],
+            inboxes: array::from_fn(|_| Inbox::empty()),
         })
     }
 }
@@ -46,15 +45,10 @@ impl Link for Crossbar {
     }
 
     fn put(&mut self, board: usize, frame: &[u32]) -> Result<(), Fault> {
-        if board >= self.boards {
-            return Err(fault(Call::Put, Cause::Board { number: board }));
-        }
-        if frame.len() < 1 || frame.len() > MOST_WORDS {
-            return Err(fault(Call::Put, Cause::Length { due: MOST_WORDS }));
-        }
-        let inboxes = &self.inboxes[..];
-        if !inboxes[board].is_empty() {
-            return Err(fault(Call::Put, Cause::Closed { board }));
+        check_board(Call::Put, board, self.boards)?;
+        check_frame(frame)?;
+        if !self.inboxes[board].is_empty() {
+            return Err(Fault::new(Layer::Links, Call::Put, Cause::Closed { board }));
         }
         let inboxes = &mut self.inboxes[..];
         inboxes[board].fill(frame);
@@ -62,27 +56,19 @@ impl Link for Crossbar {
     }
 
     fn look(&self, board: usize, buffer: &mut [u32]) -> Result<usize, Fault> {
-        if board >= self.boards {
-            return Err(fault(Call::Look, Cause::Board { number: board }));
-        }
-        if buffer.len() < MOST_WORDS {
-            return Err(fault(Call::Look, Cause::Length { due: MOST_WORDS }));
-        }
-        let inboxes = &self.inboxes[..];
-        let inbox = &inboxes[board];
+        check_board(Call::Look, board, self.boards)?;
+        check_buffer(buffer)?;
+        let inbox = &self.inboxes[board];
         if inbox.is_empty() {
-            return Err(fault(Call::Look, Cause::Nothing { board }));
+            return Err(Fault::new(Layer::Links, Call::Look, Cause::Nothing { board }));
         }
         Ok(inbox.copy_to(buffer))
     }
 
     fn discard(&mut self, board: usize) -> Result<(), Fault> {
-        if board >= self.boards {
-            return Err(fault(Call::Drop, Cause::Board { number: board }));
-        }
-        let inboxes = &self.inboxes[..];
-        if inboxes[board].is_empty() {
-            return Err(fault(Call::Drop, Cause::Nothing { board }));
+        check_board(Call::Drop, board, self.boards)?;
+        if self.inboxes[board].is_empty() {
+            return Err(Fault::new(Layer::Links, Call::Drop, Cause::Nothing { board }));
         }
         let inboxes = &mut self.inboxes[..];
         inboxes[board].clear();

@@ -1,52 +1,51 @@
 // Filling, reading and emptying an inbox.
-ghost use Rattle.std.specs.Prelude.{◌≡◌, ℕ, ◌≤◌, [], ◌∷◌, ◌++◌, length, take, drop};
+ghost use Rattle.std.specs.Prelude.{◌≡◌, ℕ, ◌≤◌, [], ◌∷◌, ◌++◌, length, drop};
 ghost use Rattle.links.specs.Frames.{none_waits};
-ghost use Rattle.crossbars.specs.Held.{held};
+ghost use Rattle.arrayvec.specs.ArrayVec.{array_vec_len};
+ghost use Rattle.crossbars.specs.Crossbars.{content};
 
 use crate::inbox::Inbox;
-use links::link::MOST_WORDS;
+use arrayvec::ArrayVec;
 
 impl Inbox {
     pub(crate) fn empty() -> Self
-        ensures { held result.words result.used ≡ [] }
+        ensures { content result ≡ [] }
     {
         Inbox {
-            words: [0; MOST_WORDS],
-            used: 0,
+            words: ArrayVec::new(),
         }
     }
 
     pub(crate) fn is_empty(&self) -> bool
-        ensures { result ≡ none_waits (held self.now.words self.now.used) }
+        ensures { result ≡ none_waits (content self.now) }
     {
-        self.used == 0
+        self.words.is_empty()
     }
 
+    // Lays a frame into an empty inbox.
     pub(crate) fn fill(&mut self, frame: &[u32])
-        requires { (1 ≤ length frame.now) × (length frame.now ≤ 64) }
-        ensures { held self.new.words self.new.used ≡ frame.now ∷ [] }
+        requires { (content self.old ≡ []) × (1 ≤ length frame.now) × (length frame.now ≤ 64) }
+        ensures { content self.new ≡ frame.now ∷ [] }
     {
-        let len = frame.len();
-        let part = &mut self.words[0..len];
-        part.copy_from_slice(frame);
-        self.used = len;
+        for word in frame {
+            self.words.push(*word);
+        }
     }
 
     // Copies the frame to the front of the buffer.
     pub(crate) fn copy_to(&self, buffer: &mut [u32]) -> usize
         requires { 64 ≤ length buffer.old }
-        ensures size { result ≡ self.now.used }
-        ensures copied { buffer.new ≡ take result self.now.words ++ drop result buffer.old }
+        ensures size { result ≡ array_vec_len self.now.words }
+        ensures copied { buffer.new ≡ self.now.words.items ++ drop result buffer.old }
     {
-        let len = self.used;
-        let part = &mut buffer[0..len];
-        part.copy_from_slice(&self.words[0..len]);
+        let len = self.words.len();
+        buffer[..len].copy_from_slice(&self.words);
         len
     }
 
     pub(crate) fn clear(&mut self)
-        ensures { held self.new.words self.new.used ≡ [] }
+        ensures { content self.new ≡ [] }
     {
-        self.used = 0;
+        self.words.clear();
     }
 }
