@@ -46,8 +46,11 @@ pub(crate) fn oldest(sent: &[Sent], board: usize) -> Option<usize> {
 pub(crate) fn is_open(kind: Kind, sent: &[Sent], board: usize) -> bool {
     match kind {
         Kind::Bus { words } => {
-            let used: usize = sent.iter().map(|s| 2 + frame_len(s.number)).sum();
-            66 + used <= words
+            let used = sent.iter().fold(
+                66,
+                |used: usize, s| used.wrapping_add(2 + frame_len(s.number)),
+            );
+            used <= words
         }
         Kind::Crossbar => oldest(sent, board).is_none(),
     }

@@ -32,7 +32,15 @@ impl<'a> Table<'a> {
         check_list(prices, 2 * cells, cells, MOST_LATENCY, MOST_RATE)
     }
 
-    // The tariff of a list that `check` lets pass.
+    // The tariff of a list, or why there is none.
+    pub fn try_new(boards: usize, prices: &'a [u32]) -> Result<Table<'a>, Fault>
+        ensures answer { Answers Layer.Tariffs Call.Make (table_refusal boards prices.now) result (λ t. (t.boards ≡ boards) × (t.prices.now ≡ prices.now)) (Unit {0}) }
+    {
+        Table::check(boards, prices)?;
+        Ok(Table::new(boards, prices))
+    }
+
+    // The tariff of a list that `check` lets pass. It cannot fail, so it asks for a list that is legal.
     pub fn new(boards: usize, prices: &'a [u32]) -> Table<'a>
         requires legal { table_refusal boards prices.now ≡ None }
         ensures count { result.boards ≡ boards }

@@ -23,33 +23,10 @@ impl Charges {
     pub fn new<T: Tariff>(inner: &T, list: &[u32]) -> Result<Charges, Fault>
         ensures answer { Answers Layer.Tariffs Call.Make (list_refusal (charge_rule (T.Tariff.boards inner.now)) list.now) result (λ c. c.table ≡ charge_table (T.Tariff.boards inner.now) list.now) (Unit {0}) }
     {
-        charged(inner.board_count(), list)
+        let boards = inner.board_count();
+        check_list(list, boards, boards, MOST_CHARGE, MOST_CHARGE)?;
+        let mut table = [0; MOST_BOARDS];
+        table[..boards].copy_from_slice(list);
+        Ok(Charges { table })
     }
-}
-
-fn charged(boards: usize, list: &[u32]) -> Result<Charges, Fault>
-    requires few { boards ≤ 16 }
-    ensures answer { Answers Layer.Tariffs Call.Make (list_refusal (charge_rule boards) list.now) result (λ c. c.table ≡ charge_table boards list.now) (Unit {0}) }
-{
-    check_charges(boards, list)?;
-    Ok(Charges {
-        table: filled(list),
-    })
-}
-
-// The list with zeros after it.
-fn filled(list: &[u32]) -> [u32; MOST_BOARDS]
-    requires fits { length list.now ≤ 16 }
-    ensures table { result ≡ charge_table (length list.now) list.now }
-{
-    let mut table = [0; MOST_BOARDS];
-    table[0..list.len()].copy_from_slice(list);
-    table
-}
-
-// Refuses a list that has not one legal charge for each board.
-fn check_charges(boards: usize, list: &[u32]) -> Result<(), Fault>
-    ensures answer { Answers Layer.Tariffs Call.Make (list_refusal (charge_rule boards) list.now) result (λ _. Unit {0}) (Unit {0}) }
-{
-    check_list(list, boards, boards, MOST_CHARGE, MOST_CHARGE)
 }

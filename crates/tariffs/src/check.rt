@@ -1,6 +1,7 @@
 // The checks that every tariff shares, each with its refusal.
 ghost use Rattle.std.specs.Prelude.{◌≡◌};
 ghost use Rattle.faults.specs.Answers.{Answers};
+ghost use Rattle.faults.specs.Checks.{Checks};
 ghost use Rattle.faults.specs.declared.fault.Call.{Call};
 ghost use Rattle.faults.specs.declared.fault.Layer.{Layer};
 ghost use Rattle.tariffs.specs.Questions.{ask_refusal, boards_refusal};
@@ -14,20 +15,27 @@ impl Question {
     pub fn check(self, boards: usize) -> Result<(), Fault>
         ensures answer { Answers Layer.Tariffs Call.Ask (ask_refusal boards self) result (λ _. Unit {0}) (Unit {0}) }
     {
-        let cause = if self.sender >= boards {
-            Cause::Board {
+        self.legal(boards)
+            .map_err(|cause| Fault::new(Layer::Tariffs, Call::Ask, cause))
+    }
+
+    fn legal(self, boards: usize) -> Result<(), Cause>
+        ensures { Checks (ask_refusal boards self) result (λ _. Unit {0}) }
+    {
+        if self.sender >= boards {
+            return Err(Cause::Board {
                 number: self.sender,
-            }
-        } else if self.receiver >= boards {
-            Cause::Board {
+            });
+        }
+        if self.receiver >= boards {
+            return Err(Cause::Board {
                 number: self.receiver,
-            }
-        } else if self.bytes > MOST_BYTES {
-            Cause::Beyond { index: 0 }
-        } else {
-            return Ok(());
-        };
-        Err(refused(Call::Ask, cause))
+            });
+        }
+        if self.bytes > MOST_BYTES {
+            return Err(Cause::Beyond { index: 0 });
+        }
+        Ok(())
     }
 }
 
@@ -36,19 +44,11 @@ pub fn check_boards(boards: usize) -> Result<(), Fault>
     ensures answer { Answers Layer.Tariffs Call.Make (boards_refusal boards) result (λ _. Unit {0}) (Unit {0}) }
 {
     if boards < 1 || boards > MOST_BOARDS {
-        return Err(refused(Call::Make, Cause::Board { number: boards }));
+        return Err(Fault::new(
+            Layer::Tariffs,
+            Call::Make,
+            Cause::Board { number: boards },
+        ));
     }
     Ok(())
-}
-
-fn refused(call: Call, cause: Cause) -> Fault
-    ensures layer { result.layer ≡ Layer.Tariffs }
-    ensures named { result.call ≡ call }
-    ensures caused { result.cause ≡ cause }
-{
-    Fault {
-        layer: Layer::Tariffs,
-        call,
-        cause,
-    }
 }
