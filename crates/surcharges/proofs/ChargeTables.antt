@@ -1,11 +1,19 @@
 -- The table of a list of charges has its length, and its charges are within their limit.
-use Rattle.std.proofs.Common.{◌≡◌, ℕ, zero, suc, ◌≤◌, List, [], ◌∷◌, ◌++◌, length, get_or, drop, replicate, None, ap, arith, length-append}
+use Rattle.std.proofs.Common.{◌≡◌, ℕ, zero, suc, ◌≤◌, List, [], ◌∷◌, ◌++◌, length, get_or, drop, replicate, None, sym, refl, ap, ◌∙◌, ltb, arith, length-append}
 use lib.ListN.{length-replicate}
 use Rattle.std.proofs.lemmas.List.{drop-replicate}
+use Rattle.std.proofs.lemmas.Bool.{cond_both}
 use Rattle.bounded_lists.proofs.BoundedLists.{legal_list}
 use Rattle.bounded_lists.proofs.Refusals.{list_kept}
-use Rattle.bounded_lists.specs.Lists.{list_refusal}
+use Rattle.bounded_lists.specs.Lists.{bounded, limits, list_refusal}
 use Rattle.surcharges.specs.Surcharges.{charge_rule, charge_table, highest_charge}
+
+-- where all have one limit, it does not matter which are the first
+pub one_limit : (n : ℕ) (xs : List ℕ) → list_refusal (bounded n (limits n highest_charge highest_charge)) xs ≡ None → list_refusal (charge_rule n) xs ≡ None
+one_limit n xs e =
+    let same : limits n highest_charge highest_charge ≡ (λ _. highest_charge) =
+    λ i k. cond_both (ltb k n) highest_charge highest_charge (λ v. v ≡ highest_charge) (λ _. refl) (λ _. refl) i in
+    ap (λ l. list_refusal (bounded n l) xs) (sym same) ∙ e
 
 pub charges_kept : (n : ℕ) (xs : List ℕ) → list_refusal (charge_rule n) xs ≡ None → (length xs ≡ n) × ((k : ℕ) → get_or xs k 0 ≤ highest_charge)
 charges_kept n xs e = legal_list n (λ _. highest_charge) xs (list_kept (charge_rule n) xs e)
