@@ -20,7 +20,7 @@ use Rattle.plans.specs.Plans.{line_of}
 use Rattle.plans.specs.declared.plan.Plan.{Plan}
 use Rattle.settling.specs.Prices.{Costed, cost_of, count_refusal, question}
 use Rattle.settling.specs.Records.{Summed, name_in, price_at, proposed}
-use Rattle.settling.specs.Settling.{adopt_refusal}
+use Rattle.settling.specs.Settling.{plan_refusal}
 use Rattle.tariffs.specs.declared.question.Question.{Question}
 
 some_none : (c : Cause) → ◌≡◌ {A = Option Cause} (Some c) None → ⊥
@@ -56,10 +56,10 @@ module _ (price : Question → ℕ) (d : Drawing) (w : ℕ) (t : Bool) (c : Cost
       (λ x l. (lines x l).2)
       bill
 
-  pub adopt_judged : (n : ℕ) → count_refusal d n ≡ None → count_refusal d p.boards ≡ None → adopt_refusal price d w t n p ≡ judge_refusal c a
-  adopt_judged n e f =
-      ap (λ o. option_or o (option_or (count_refusal d p.boards) (option_map cause.Plan (wrong_role (cost_of price d w t) d.target.boards (proposed p))))) e
-      ∙ ap (λ o. option_or o (option_map cause.Plan (wrong_role (cost_of price d w t) d.target.boards (proposed p)))) f
+  -- what judges the assignment by the table judges the plan by the costs
+  pub refused_plan : count_refusal d p.boards ≡ None → plan_refusal price d w t p ≡ judge_refusal c a
+  refused_plan f =
+      ap (λ o. option_or o (option_map cause.Plan (wrong_role (cost_of price d w t) d.target.boards (proposed p)))) f
       ∙ ap (option_map cause.Plan) (sym judged_plan)
 
 module _ (price : Question → ℕ) (d : Drawing) (w : ℕ) (t : Bool) (p : Plan) (prices : List ℕ)

@@ -1,2 +1,3 @@
 pub mod Certified
-pub mod Packages
+pub mod Sizes
+pub mod Checked

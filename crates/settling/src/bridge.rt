@@ -1,4 +1,4 @@
-// A plan as the assignment that it proposes, and back.
+// A plan as the assignment that it proposes, and back. Both types are other crates', so neither way can be a `From`.
 ghost use Rattle.std.specs.Prelude.{◌≡◌, ℕ, ◌<◌, ◌≤◌};
 ghost use Rattle.assignment.specs.Plans.{board_price, name_of, role_price};
 ghost use Rattle.plans.specs.Plans.{line_of};
@@ -16,10 +16,7 @@ pub(crate) fn assignment_of(plan: &Plan) -> Assignment
     let mut roles = [0; 16];
     let mut boards = [0; 16];
     for x in 0..plan.boards {
-        let line = match plan.line(x) {
-            Ok(line) => line,
-            Err(_) => unreachable(),
-        };
+        let line = plan.line(x).unwrap();
         naming[x] = line.board;
         roles[x] = line.u;
         boards[x] = line.v;
@@ -46,10 +43,7 @@ pub(crate) fn plan_of(count: usize, found: &Assignment) -> Plan
             u: found.roles[x],
             v: found.boards[x],
         };
-        match plan.set_line(x, line) {
-            Ok(_) => (),
-            Err(_) => unreachable(),
-        }
+        plan.set_line(x, line).unwrap();
     }
     plan
 }

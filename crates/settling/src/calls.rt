@@ -2,14 +2,13 @@
 ghost use Rattle.std.specs.Prelude.{◌≡◌, Bool};
 ghost use Rattle.assignment_laws.specs.Judging.{Certified};
 ghost use Rattle.faults.specs.Answers.{Answers};
+ghost use Rattle.faults.specs.Checks.{Checks};
 ghost use Rattle.settling.specs.Prices.{Marked, cost_of, count_refusal};
 ghost use Rattle.settling.specs.Records.{proposed};
-ghost use Rattle.settling.specs.Settling.{Settles, adopt_refusal};
+ghost use Rattle.settling.specs.Settling.{Settles, adopt_refusal, plan_refusal};
 
 use crate::bridge::{assignment_of, plan_of};
-use crate::costing::{count_cause, refused, table_of};
-use crate::pricing::is_transformed;
-use crate::recording::prices_under;
+use crate::pricing::{Pricing, check_count};
 use crate::settlement::Settlement;
 use assignment::{judge, solve};
 use drawings::Drawing;
@@ -18,21 +17,23 @@ use faults::{Call, Cause, Fault, Layer};
 use plans::Plan;
 use tariffs::Tariff;
 
-// A certified plan with the prices of its packages.
-fn recorded<E: Element, T: Tariff>(
-    drawing: &Drawing,
-    tariff: &T,
-    transformed: bool,
-    plan: Plan,
-) -> Settlement
-    requires count { T.boards tariff.now ≡ drawing.now.target.boards }
-    requires plan { plan.boards ≡ drawing.now.target.boards }
-    requires certified { Certified (cost_of (T.cost tariff.now) drawing.now E.width transformed) drawing.now.target.boards (proposed plan) }
-    ensures plan { result.plan ≡ plan }
-    ensures settles { Settles (T.cost tariff.now) drawing.now E.width transformed result }
-{
-    let prices = prices_under::<E, T>(drawing, tariff, transformed, &plan);
-    Settlement { plan, prices }
+impl<'a, T: Tariff> Pricing<'a, T> {
+    // A plan of a least naming, with prices that certify it.
+    fn least_plan(&self) -> Plan
+        ensures count { result.boards ≡ self.now.drawing.now.target.boards }
+        ensures certified { Certified (cost_of (T.cost self.now.tariff.now) self.now.drawing.now self.now.words self.now.transformed) self.now.drawing.now.target.boards (proposed result) }
+    {
+        let costs = self.costs();
+        plan_of(costs.boards, &solve(&costs))
+    }
+
+    // Refuses a plan for another count of boards than the drawing, and one that its prices do not certify.
+    fn check_plan(&self, plan: &Plan) -> Result<(), Cause>
+        ensures { Checks (plan_refusal (T.cost self.now.tariff.now) self.now.drawing.now self.now.words self.now.transformed plan.now) result (λ _. (plan.now.boards ≡ self.now.drawing.now.target.boards) × Certified (cost_of (T.cost self.now.tariff.now) self.now.drawing.now self.now.words self.now.transformed) self.now.drawing.now.target.boards (proposed plan.now)) }
+    {
+        check_count(self.drawing, plan.boards)?;
+        judge(&self.costs(), &assignment_of(plan)).map_err(|fault| fault.cause)
+    }
 }
 
 // A least naming for the drawing by the tariff, with prices that certify it.
@@ -43,13 +44,8 @@ pub fn settle<E: Element, T: Tariff>(
 ) -> Result<Settlement, Fault>
     ensures { (t : Bool) × Marked drawing.now.operation (alpha ≡ E.unit) t × Answers Layer.Book Call.Settle (count_refusal drawing.now (T.boards tariff.now)) result (Settles (T.cost tariff.now) drawing.now E.width t) (Unit {0}) }
 {
-    let transformed = is_transformed(drawing, alpha);
-    if let Some(cause) = count_cause(drawing, tariff.board_count()) {
-        return Err(refused(Call::Settle, cause));
-    }
-    let costs = table_of::<E, T>(drawing, tariff, transformed);
-    let plan = plan_of(costs.boards, &solve(&costs));
-    Ok(recorded::<E, T>(drawing, tariff, transformed, plan))
+    let pricing = Pricing::new(Call::Settle, drawing, alpha, tariff)?;
+    Ok(pricing.settlement(pricing.least_plan()))
 }
 
 // The proposed plan, where it is one for the drawing's boards and is certified by its prices.
@@ -61,16 +57,9 @@ pub fn adopt<E: Element, T: Tariff>(
 ) -> Result<Settlement, Fault>
     ensures { (t : Bool) × Marked drawing.now.operation (alpha ≡ E.unit) t × Answers Layer.Book Call.Adopt (adopt_refusal (T.cost tariff.now) drawing.now E.width t (T.boards tariff.now) plan.now) result (λ s. (s.plan ≡ plan.now) × Settles (T.cost tariff.now) drawing.now E.width t s) (Unit {0}) }
 {
-    let transformed = is_transformed(drawing, alpha);
-    if let Some(cause) = count_cause(drawing, tariff.board_count()) {
-        return Err(refused(Call::Adopt, cause));
-    }
-    if let Some(cause) = count_cause(drawing, plan.boards) {
-        return Err(refused(Call::Adopt, cause));
-    }
-    let costs = table_of::<E, T>(drawing, tariff, transformed);
-    if let Err(fault) = judge(&costs, &assignment_of(plan)) {
-        return Err(refused(Call::Adopt, fault.cause));
-    }
-    Ok(recorded::<E, T>(drawing, tariff, transformed, *plan))
+    let pricing = Pricing::new(Call::Adopt, drawing, alpha, tariff)?;
+    pricing
+        .check_plan(plan)
+        .map_err(|cause| Fault::new(Layer::Book, Call::Adopt, cause))?;
+    Ok(pricing.settlement(*plan))
 }

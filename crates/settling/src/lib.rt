@@ -4,6 +4,7 @@
 mod bridge;
 pub mod calls;
 pub mod costing;
+mod packages;
 mod pricing;
 mod recording;
 pub mod settlement;

@@ -1,81 +1,104 @@
-// What the packages of a drawing cost.
-ghost use Rattle.std.specs.Prelude.{◌≡◌, ℕ, ◌+◌, ◌*◌, ◌^◌, ◌<◌, ◌≤◌, length, None, slice_index};
-ghost use Rattle.assignment_laws.specs.Namings.{total};
+// What the packages of a drawing cost by a tariff.
+ghost use Rattle.std.specs.Prelude.{◌≡◌, ℕ, ◌<◌, ◌≤◌, Bool, slice_index};
 ghost use Rattle.drawings.specs.Drawings.{package_of};
+ghost use Rattle.faults.specs.Answers.{Answers};
+ghost use Rattle.faults.specs.Checks.{Checks};
 ghost use Rattle.overlays.specs.Packages.{bytes};
-ghost use Rattle.settling.specs.Prices.{Marked, asked};
+ghost use Rattle.settling.specs.Prices.{Marked, asked, count_refusal};
 ghost use Rattle.tariffs.specs.Laws.{highest_price};
-ghost use Rattle.tariffs.specs.Questions.{ask_refusal, most_bytes};
 
+use crate::packages::Packages;
 use drawings::Drawing;
 use elements::Element;
+use faults::{Call, Cause, Fault, Layer};
 use overlays::Operation;
 use tariffs::{Question, Tariff};
 
-// Whether the packages are transformed on their way.
-pub(crate) fn is_transformed<E: Element>(drawing: &Drawing, alpha: E) -> bool
-    ensures { Marked drawing.now.operation (alpha ≡ E.unit) result }
-{
-    match drawing.operation {
-        Operation::Identity => !alpha.is_one(),
-        Operation::Transpose => true,
-        Operation::ConjugateTranspose => true,
-    }
+// A drawing of elements of so many words, and a tariff for its boards.
+#[derive(Drop)]
+pub(crate) struct Pricing<'a, T: Tariff> {
+    pub(crate) drawing: &'a Drawing,
+    pub(crate) tariff: &'a T,
+    pub(crate) words: u8,
+    pub(crate) transformed: bool,
+    ghost counted: { T.boards tariff.now ≡ drawing.now.target.boards },
+    ghost narrow: { words ≤ 4 },
 }
 
-// The bytes of each sender's package for the role.
-pub(crate) fn packages_for<E: Element>(drawing: &Drawing, role: usize) -> [usize; 16]
-    requires { role < drawing.now.target.boards }
-    ensures len { length result ≡ 16 }
-    ensures items { (i : ℕ) → i < drawing.now.target.boards → slice_index result i ≡ bytes (package_of drawing.now i role) E.width }
-    ensures capped { (i : ℕ) → slice_index result i ≤ most_bytes }
-{
-    let words = E::size() as u8;
-    let mut packages = [0; 16];
-    for sender in 0..drawing.target.boards {
-        packages[sender] = match drawing.package_bytes(sender, role, words) {
-            Ok(bytes) => bytes,
-            Err(_) => unreachable(),
-        };
-    }
-    packages
-}
-
-// What the tariff asks for a package that it has a price for.
-pub(crate) fn price_of<T: Tariff>(tariff: &T, question: Question) -> u64
-    requires { ask_refusal (T.boards tariff.now) question ≡ None }
-    ensures value { result ≡ T.cost tariff.now question }
-    ensures capped { result ≤ highest_price }
-{
-    match tariff.price(question) {
-        Ok(price) => price,
-        Err(_) => unreachable(),
-    }
-}
-
-// What it costs that the packages of all senders go to the receiver.
-pub(crate) fn pair_cost<T: Tariff>(
-    tariff: &T,
-    packages: &[usize; 16],
-    receiver: usize,
-    transformed: bool,
-) -> u64
-    requires receiver_bound { receiver < T.boards tariff.now }
-    requires by_index { (i : ℕ) → slice_index packages.now i ≤ most_bytes }
-    ensures value { result ≡ total (λ i. T.cost tariff.now (asked i receiver (slice_index packages.now i) transformed)) (T.boards tariff.now) }
-    ensures capped { result ≤ 2 ^ 44 }
-{
-    let mut sum = 0;
-    for sender in 0..tariff.board_count() {
-        sum += price_of(
+impl<'a, T: Tariff> Pricing<'a, T> {
+    // For a call that may be refused, since the tariff is for another count of boards.
+    pub(crate) fn new<E: Element>(
+        call: Call,
+        drawing: &'a Drawing,
+        alpha: E,
+        tariff: &'a T,
+    ) -> Result<Pricing<'a, T>, Fault>
+        ensures { (t : Bool) × Marked drawing.now.operation (alpha ≡ E.unit) t × Answers Layer.Book call (count_refusal drawing.now (T.boards tariff.now)) result (λ p. (p.drawing.now ≡ drawing.now) × (p.tariff.now ≡ tariff.now) × (p.words ≡ E.width) × (p.transformed ≡ t)) (Unit {0}) }
+    {
+        let transformed = is_transformed(drawing.operation, alpha);
+        check_count(drawing, tariff.board_count()).map_err(|cause| Fault::new(
+            Layer::Book,
+            call,
+            cause,
+        ))?;
+        Ok(Pricing {
+            drawing,
             tariff,
-            Question {
+            words: E::size() as u8,
+            transformed,
+        })
+    }
+
+    // The packages of all senders for the role.
+    pub(crate) fn packages(&self, role: usize) -> Packages
+        requires { role < self.now.drawing.now.target.boards }
+        ensures { (i : ℕ) → i < self.now.drawing.now.target.boards → slice_index result.bytes i ≡ bytes (package_of self.now.drawing.now i role) self.now.words }
+    {
+        let mut bytes = [0; 16];
+        for sender in 0..self.drawing.target.boards {
+            bytes[sender] = self
+                .drawing
+                .package_bytes(sender, role, self.words)
+                .unwrap();
+        }
+        Packages { bytes }
+    }
+
+    // What the sender's package costs, which the receiver gets.
+    pub(crate) fn price(&self, packages: &Packages, sender: usize, receiver: usize) -> u64
+        requires sender_bound { sender < self.now.drawing.now.target.boards }
+        requires receiver_bound { receiver < self.now.drawing.now.target.boards }
+        ensures value { result ≡ T.cost self.now.tariff.now (asked sender receiver (slice_index packages.now.bytes sender) self.now.transformed) }
+        ensures capped { result ≤ highest_price }
+    {
+        self.tariff
+            .price(Question {
                 sender,
                 receiver,
-                bytes: packages[sender],
-                transformed,
-            },
-        );
+                bytes: packages.bytes[sender],
+                transformed: self.transformed,
+            })
+            .unwrap()
     }
-    sum
+}
+
+// Whether the packages are transformed on their way.
+fn is_transformed<E: Element>(operation: Operation, alpha: E) -> bool
+    ensures { Marked operation (alpha ≡ E.unit) result }
+{
+    match operation {
+        Operation::Identity => !alpha.is_one(),
+        Operation::Transpose | Operation::ConjugateTranspose => true,
+    }
+}
+
+// Refuses what is for another count of boards than the drawing.
+pub(crate) fn check_count(drawing: &Drawing, number: usize) -> Result<(), Cause>
+    ensures { Checks (count_refusal drawing.now number) result (λ _. Unit {0}) }
+{
+    if number == drawing.target.boards {
+        Ok(())
+    } else {
+        Err(Cause::Count { number })
+    }
 }

@@ -1,20 +1,13 @@
-use Rattle.std.proofs.Common.{sym, ◌∙◌, arith}
-use Rattle.settling.proofs.Certified.{certified_plan, fits}
+use Rattle.std.proofs.Common.{ap, rules}
+use Rattle.settling.specs.Settling.{Settles}
+use Rattle.settling.proofs.Checked.{moved}
 use Rattle.settling.proofs.calls.settle.Goals as goal
 
-pub recorded-requires : goal.recorded-requires
-recorded-requires g c =
-    let d = c.args.drawing.now in
-    let costs = c.table_of-costs.result in
-    let costed = c.table_of-costs.ensures in
-    let a = c.solve.result in
-    let p = c.plan_of-plan.result in
-    record {
-      count = sym c.board_count.ensures.value ∙ fits d c.board_count.result (sym c.count_cause.ensures ∙ c.in_default.is);
-      plan = c.plan_of-plan.ensures.count ∙ costed.count;
-      certified =
-          certified_plan (g.T.Tariff.cost c.args.tariff.now) d g.E.Element.width c.is_transformed-transformed.result costs costed a p
-          (λ x l. let line = c.plan_of-plan.ensures.lines x (omega (arith, costed.count)) in (sym line.0, sym line.1, sym line.2))
-          (sym c.plan_of-plan.ensures.bill)
-          c.solve.ensures.certified;
-    }
+pub returns-in_err-pricing : goal.returns-in_err-pricing
+returns-in_err-pricing g c = let made = c.new.ensures in (made.0, made.1, search rules)
+
+pub returns : goal.returns
+returns g c =
+    let made = c.in_ok-pricing.ensures in
+    let is = made.2.1 in
+    (made.0, made.1, (made.2.0, moved (λ f d w t. Settles f d w t c.settlement.result) (ap g.T.Tariff.cost is.1) is.0 is.2 is.3 c.settlement.ensures.settles))

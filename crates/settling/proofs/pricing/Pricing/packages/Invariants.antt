@@ -3,10 +3,10 @@ use Rattle.std.proofs.Common.{◌≡◌, ℕ, ◌<◌, ◌≤◌, length, get_or
 use Rattle.drawings.specs.Drawings.{package_of}
 use Rattle.overlays.specs.Packages.{bytes}
 use Rattle.tariffs.specs.Questions.{most_bytes}
-use Rattle.settling.proofs.pricing.packages_for.Given as goal
+use Rattle.settling.proofs.pricing.Pricing.packages.Given as goal
 
 abbrev pub invariant-loop-sender : goal.invariant-loop-sender
 invariant-loop-sender g l =
-    (length l.packages ≡ 16)
-    × ((i : ℕ) → i < l.sender → get_or l.packages i 0 ≡ bytes (package_of l.drawing i l.role) g.E.Element.width)
-    × ((i : ℕ) → get_or l.packages i 0 ≤ most_bytes)
+    (length l.bytes ≡ 16)
+    × ((i : ℕ) → i < l.sender → get_or l.bytes i 0 ≡ bytes (package_of l.self.drawing.now i l.role) l.self.words)
+    × ((i : ℕ) → get_or l.bytes i 0 ≤ most_bytes)
