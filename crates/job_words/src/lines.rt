@@ -1,8 +1,8 @@
 // The lines of a text and the words of a line.
-ghost use Rattle.std.specs.Prelude.{◌≡◌, ℕ, ◌<◌, ◌≤◌, length, ◌≢◌, slice_index};
+ghost use Rattle.std.specs.Prelude.{◌≡◌, ℕ, ◌<◌, ◌==◌, length, position};
 ghost use Rattle.job_words.specs.Lines.{Line};
 
-use std::alloc::{AllocFailed, Global};
+use std::alloc::{AllocError, Global};
 use std::str::from_utf8;
 
 // Why a line has no words.
@@ -12,42 +12,27 @@ pub enum Unread {
     NoMemory,
 }
 
-impl<T: Drop> From<AllocFailed<T>> for Unread {
-    fn from(_e: AllocFailed<T>) -> Unread {
+impl From<AllocError> for Unread {
+    fn from(_e: AllocError) -> Unread {
         Unread::NoMemory
     }
 }
 
 // The words of a line, without what follows a `#`.
 pub fn words<'a>(heap: Global, line: &'a [u8]) -> Result<Vec<&'a str>, Unread> {
-    let Ok(text) = from_utf8(line) else {
-        return Err(Unread::NotText);
-    };
-    let said = match text.split_once('#') {
-        Some((before, _)) => before,
-        None => text,
-    };
-    let mut words = Vec::new(heap);
-    for word in said.split([' ', '\t', '\r']) {
-        if !word.is_empty() {
-            words.push(word)?;
-        }
-    }
-    Ok(words)
+    let text = from_utf8(line).map_err(|_| Unread::NotText)?;
+    let said = text.split_once('#').map_or(text, |(before, _)| before);
+    let words = said
+        .split([' ', '\t', '\r'])
+        .filter(|word| !word.is_empty());
+    Ok(words.collect(heap)?)
 }
 
-// The bytes before the first line feed.
-fn line_len(text: &[u8]) -> usize
-    ensures within { result ≤ length text.now }
-    ensures before { (k : ℕ) → k < result → slice_index text.now k ≢ 10 }
-    ensures ends { result < length text.now → slice_index text.now result ≡ 10 }
+// Where the first line feed stands.
+fn line_feed(text: &[u8]) -> Option<usize>
+    ensures place { result ≡ position (λ byte. byte == 10) text.now }
 {
-    for i in 0..text.len() {
-        if text[i] == b'\n' {
-            return i;
-        }
-    }
-    text.len()
+    text.iter().position(|&byte| byte == b'\n')
 }
 
 // The first line of a text, and what follows its line feed.
@@ -56,10 +41,8 @@ pub fn first_line(text: &[u8]) -> (&[u8], &[u8])
     ensures line { Line text.now result.0.now result.1.now }
     ensures shorter { 0 < length text.now → length result.1.now < length text.now }
 {
-    let len = line_len(text);
-    if len < text.len() {
-        (&text[0..len], &text[len + 1..])
-    } else {
-        (text, &[])
+    match line_feed(text) {
+        Some(len) => (&text[..len], &text[len + 1..]),
+        None => (text, &[]),
     }
 }
