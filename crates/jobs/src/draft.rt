@@ -1,8 +1,7 @@
-// A job while its items are read. What has not been read yet is empty or 0.
-ghost use Rattle.std.specs.Prelude.{◌≤◌, IfSome, IfErr};
-
-use crate::item::{Item, Part, REQUIRED};
+// A job while its items are read.
+use crate::item::{Item, Part};
 use crate::job::{Alpha, Job, LayoutText, TariffText};
+use crate::line::Line;
 use crate::mistake::{Due, Mistake, Wrong};
 use crate::values::{letter, list, one_number, two_numbers, value};
 use std::alloc::Global;
@@ -14,13 +13,35 @@ enum Kind {
     Pair,
 }
 
+#[derive(Default, Drop)]
+struct LayoutDraft {
+    size: Option<(usize, usize)>,
+    rows: Option<Vec<u16>>,
+    columns: Option<Vec<u16>>,
+    owners: Option<Vec<u8>>,
+    order: Option<char>,
+    share: Option<usize>,
+}
+
 #[derive(Drop)]
 pub struct Draft {
+    pub(crate) heap: Global,
+    boards: Option<usize>,
+    kind: Option<Kind>,
+    operation: Option<char>,
+    alpha: Option<(Line, Alpha)>,
+    target: LayoutDraft,
+    source: LayoutDraft,
+    tariff: Option<TariffText>,
+    surcharges: Vec<Vec<u32>>,
+}
+
+// All that a text has to have.
+#[derive(Drop)]
+struct Whole {
     job: Job,
     kind: Kind,
-    alpha_line: usize,
-    seen: Vec<Item>,
-    ghost counted: { 1 ≤ alpha_line },
+    alpha_line: Line,
 }
 
 const MOST_SURCHARGES: usize = 2;
@@ -52,16 +73,15 @@ fn tariff_of<'a>(heap: Global, words: &[&'a str]) -> Result<TariffText, Wrong<'a
     }
 }
 
-impl LayoutText {
-    fn new(heap: Global) -> LayoutText {
-        LayoutText {
-            rows: 0,
-            columns: 0,
-            row_splits: Vec::new(heap),
-            column_splits: Vec::new(heap),
-            owners: Vec::new(heap),
-            order: ' ',
-            share: 0,
+impl LayoutDraft {
+    fn has(&self, part: Part) -> bool {
+        match part {
+            Part::Size => self.size.is_some(),
+            Part::Rows => self.rows.is_some(),
+            Part::Columns => self.columns.is_some(),
+            Part::Owners => self.owners.is_some(),
+            Part::Order => self.order.is_some(),
+            Part::Share => self.share.is_some(),
         }
     }
 
@@ -73,120 +93,117 @@ impl LayoutText {
         words: &[&'a str],
     ) -> Result<(), Wrong<'a>> {
         match part {
-            Part::Size => {
-                let (rows, columns) = two_numbers(item, words)?;
-                self.rows = rows;
-                self.columns = columns;
-            }
-            Part::Rows => self.row_splits = list(heap, item, words)?,
-            Part::Columns => self.column_splits = list(heap, item, words)?,
-            Part::Owners => self.owners = list(heap, item, words)?,
-            Part::Order => self.order = letter(item, words)?,
-            Part::Share => self.share = one_number(item, words)?,
+            Part::Size => self.size = Some(two_numbers(item, words)?),
+            Part::Rows => self.rows = Some(list(heap, item, words)?),
+            Part::Columns => self.columns = Some(list(heap, item, words)?),
+            Part::Owners => self.owners = Some(list(heap, item, words)?),
+            Part::Order => self.order = Some(letter(item, words)?),
+            Part::Share => self.share = Some(one_number(item, words)?),
         }
         Ok(())
     }
-}
 
-impl Job {
-    fn new(heap: Global) -> Job {
-        Job {
-            boards: 0,
-            operation: ' ',
-            alpha: Alpha::Word(0),
-            target: LayoutText::new(heap),
-            source: LayoutText::new(heap),
-            tariff: TariffText::Plain,
-            surcharges: Vec::new(heap),
-        }
-    }
-
-    // Reads what stands behind the name of an item other than the element.
-    fn read<'a>(&mut self, heap: Global, item: Item, words: &[&'a str]) -> Result<(), Wrong<'a>> {
-        match item {
-            Item::Boards => self.boards = one_number(item, words)?,
-            Item::Element => (),
-            Item::Operation => self.operation = letter(item, words)?,
-            Item::Alpha => self.alpha = alpha_of(words)?,
-            Item::Target(part) => self.target.read(heap, item, part, words)?,
-            Item::Source(part) => self.source.read(heap, item, part, words)?,
-            Item::Tariff => self.tariff = tariff_of(heap, words)?,
-            Item::Surcharge => self.surcharges.push(list(heap, item, words)?)?,
-        }
-        Ok(())
+    // The layout, or its first part that is missing.
+    fn finish(self) -> Result<LayoutText, Part> {
+        let (rows, columns) = self.size.ok_or(Part::Size)?;
+        Ok(LayoutText {
+            rows,
+            columns,
+            row_splits: self.rows.ok_or(Part::Rows)?,
+            column_splits: self.columns.ok_or(Part::Columns)?,
+            owners: self.owners.ok_or(Part::Owners)?,
+            order: self.order.ok_or(Part::Order)?,
+            share: self.share.ok_or(Part::Share)?,
+        })
     }
 }
 
 impl Draft {
     pub(crate) fn new(heap: Global) -> Draft {
         Draft {
-            job: Job::new(heap),
-            kind: Kind::Word,
-            alpha_line: 1,
-            seen: Vec::new(heap),
+            heap,
+            boards: None,
+            kind: None,
+            operation: None,
+            alpha: None,
+            target: LayoutDraft::default(),
+            source: LayoutDraft::default(),
+            tariff: None,
+            surcharges: Vec::new(heap),
         }
     }
 
     // Whether the item has stood as often as it may.
     pub(crate) fn has(&self, item: Item) -> bool {
         match item {
-            Item::Surcharge => self.job.surcharges.len() >= MOST_SURCHARGES,
-            _ => self.seen.contains(&item),
+            Item::Boards => self.boards.is_some(),
+            Item::Element => self.kind.is_some(),
+            Item::Operation => self.operation.is_some(),
+            Item::Alpha => self.alpha.is_some(),
+            Item::Target(part) => self.target.has(part),
+            Item::Source(part) => self.source.has(part),
+            Item::Tariff => self.tariff.is_some(),
+            Item::Surcharge => self.surcharges.len() >= MOST_SURCHARGES,
         }
     }
 
     // Reads what stands behind the item's name.
     pub(crate) fn read<'a>(
         &mut self,
-        heap: Global,
-        line: usize,
+        line: Line,
         item: Item,
         words: &[&'a str],
-    ) -> Result<(), Wrong<'a>>
-        requires counted { 1 ≤ line }
-    {
+    ) -> Result<(), Wrong<'a>> {
+        let heap = self.heap;
         match item {
-            Item::Element => self.kind = kind_of(words)?,
-            Item::Alpha => self.alpha_line = line,
-            _ => (),
+            Item::Boards => self.boards = Some(one_number(item, words)?),
+            Item::Element => self.kind = Some(kind_of(words)?),
+            Item::Operation => self.operation = Some(letter(item, words)?),
+            Item::Alpha => self.alpha = Some((line, alpha_of(words)?)),
+            Item::Target(part) => self.target.read(heap, item, part, words)?,
+            Item::Source(part) => self.source.read(heap, item, part, words)?,
+            Item::Tariff => self.tariff = Some(tariff_of(heap, words)?),
+            Item::Surcharge => self.surcharges.push(list(heap, item, words)?)?,
         }
-        self.job.read(heap, item, words)?;
-        self.seen.push(item)?;
         Ok(())
     }
 
-    // What the text lacks as a whole, which ends before the line `after`.
-    fn lacks<'a>(&self, after: usize) -> Option<Mistake<'a>>
-        requires counted { 1 ≤ after }
-        ensures line { IfSome result (λ m. 1 ≤ m.line) }
-    {
-        for item in REQUIRED {
-            if !self.seen.contains(&item) {
-                return Some(Mistake {
-                    line: after,
-                    wrong: Wrong::Missing(item),
-                });
-            }
-        }
-        let due = match (self.kind, self.job.alpha) {
-            (Kind::Word, Alpha::Pair(_, _)) => Due::OneForWord,
-            (Kind::Pair, Alpha::Word(_)) => Due::TwoForPair,
-            _ => return None,
+    // All that has been read, or the first item that is missing.
+    fn whole(self) -> Result<Whole, Item> {
+        let boards = self.boards.ok_or(Item::Boards)?;
+        let kind = self.kind.ok_or(Item::Element)?;
+        let operation = self.operation.ok_or(Item::Operation)?;
+        let (alpha_line, alpha) = self.alpha.ok_or(Item::Alpha)?;
+        let job = Job {
+            boards,
+            operation,
+            alpha,
+            target: self.target.finish().map_err(Item::Target)?,
+            source: self.source.finish().map_err(Item::Source)?,
+            tariff: self.tariff.ok_or(Item::Tariff)?,
+            surcharges: self.surcharges,
         };
-        Some(Mistake {
-            line: self.alpha_line,
-            wrong: Wrong::Lacks(Item::Alpha, due),
+        Ok(Whole {
+            job,
+            kind,
+            alpha_line,
         })
     }
 
     // The job, or the first mistake of the whole text, which ends before the line `after`.
-    pub(crate) fn finish<'a>(self, after: usize) -> Result<Job, Mistake<'a>>
-        requires counted { 1 ≤ after }
-        ensures line { IfErr result (λ m. 1 ≤ m.line) }
-    {
-        match self.lacks(after) {
-            Some(mistake) => Err(mistake),
-            None => Ok(self.job),
-        }
+    pub(crate) fn finish<'a>(self, after: Line) -> Result<Job, Mistake<'a>> {
+        let Whole {
+            job,
+            kind,
+            alpha_line,
+        } = self
+            .whole()
+            .map_err(|item| Mistake::new(after, Wrong::Missing(item)))?;
+        let due = match (kind, job.alpha) {
+            (Kind::Word, Alpha::Word(_)) | (Kind::Pair, Alpha::Pair(_, _)) => return Ok(job),
+            (Kind::Word, Alpha::Pair(_, _)) => Due::OneForWord,
+            (Kind::Pair, Alpha::Word(_)) => Due::TwoForPair,
+        };
+        Err(Mistake::new(alpha_line, Wrong::Lacks(Item::Alpha, due)))
     }
 }

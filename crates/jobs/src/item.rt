@@ -1,6 +1,7 @@
 // The items of a job and their names.
 use faults::Bank;
 use std::fmt;
+use std::str::FromStr;
 
 // An item of a layout.
 #[derive(Clone, Copy, PartialEq, Eq)]
@@ -25,37 +26,22 @@ pub enum Item {
     Surcharge,
 }
 
-// The items that a job has to have, in the order in which they are missed.
-pub(crate) const REQUIRED: [Item; 17] = [
-    Item::Boards,
-    Item::Element,
-    Item::Operation,
-    Item::Alpha,
-    Item::Target(Part::Size),
-    Item::Target(Part::Rows),
-    Item::Target(Part::Columns),
-    Item::Target(Part::Owners),
-    Item::Target(Part::Order),
-    Item::Target(Part::Share),
-    Item::Source(Part::Size),
-    Item::Source(Part::Rows),
-    Item::Source(Part::Columns),
-    Item::Source(Part::Owners),
-    Item::Source(Part::Order),
-    Item::Source(Part::Share),
-    Item::Tariff,
-];
+// A word that names no part.
+#[derive(Clone, Copy, PartialEq, Eq)]
+pub struct NoPart;
 
-impl Part {
-    pub(crate) fn named(word: &str) -> Option<Part> {
+impl FromStr for Part {
+    type Err = NoPart;
+
+    fn from_str(word: &str) -> Result<Part, NoPart> {
         match word {
-            "size" => Some(Part::Size),
-            "rows" => Some(Part::Rows),
-            "columns" => Some(Part::Columns),
-            "owners" => Some(Part::Owners),
-            "order" => Some(Part::Order),
-            "share" => Some(Part::Share),
-            _ => None,
+            "size" => Ok(Part::Size),
+            "rows" => Ok(Part::Rows),
+            "columns" => Ok(Part::Columns),
+            "owners" => Ok(Part::Owners),
+            "order" => Ok(Part::Order),
+            "share" => Ok(Part::Share),
+            _ => Err(NoPart),
         }
     }
 }

@@ -4,6 +4,7 @@
 mod draft;
 pub mod item;
 pub mod job;
+mod line;
 pub mod mistake;
 pub mod parsing;
 mod values;

@@ -1,5 +1,8 @@
 // Mistakes in the text of a job.
+ghost use Rattle.std.specs.Prelude.{◌≡◌, ◌≤◌};
+
 use crate::item::Item;
+use crate::line::Line;
 use faults::Bank;
 use job_words::Unread;
 use std::alloc::{AllocError, AllocFailed};
@@ -79,6 +82,12 @@ impl<'a> From<Unread> for Wrong<'a> {
     }
 }
 
+impl<'a> From<AllocError> for Wrong<'a> {
+    fn from(_e: AllocError) -> Wrong<'a> {
+        Wrong::NoMemory
+    }
+}
+
 impl<'a, T: Drop> From<AllocFailed<T>> for Wrong<'a> {
     fn from(_e: AllocFailed<T>) -> Wrong<'a> {
         Wrong::NoMemory
@@ -90,4 +99,16 @@ impl<'a, T: Drop> From<AllocFailed<T>> for Wrong<'a> {
 pub struct Mistake<'a> {
     pub line: usize,
     pub wrong: Wrong<'a>,
+    ghost counted: { 1 ≤ line },
+}
+
+impl<'a> Mistake<'a> {
+    pub(crate) fn new(line: Line, wrong: Wrong<'a>) -> Mistake<'a>
+        ensures line { result.line ≡ line.number }
+    {
+        Mistake {
+            line: line.number,
+            wrong,
+        }
+    }
 }

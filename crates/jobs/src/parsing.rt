@@ -2,8 +2,9 @@
 ghost use Rattle.std.specs.Prelude.{◌≤◌, IfErr};
 
 use crate::draft::Draft;
-use crate::item::{Item, Part};
+use crate::item::Item;
 use crate::job::Job;
+use crate::line::Line;
 use crate::mistake::{Mistake, Wrong};
 use faults::Bank;
 use job_words::{first_line, words};
@@ -32,25 +33,15 @@ fn part_of<'a, 'b>(bank: Bank, words: &'b [&'a str]) -> Result<(Item, &'b [&'a s
     let [word, rest @ ..] = words else {
         return Err(Wrong::NoPartAtAll(bank));
     };
-    let Some(part) = Part::named(word) else {
-        return Err(Wrong::NoPart(bank, word));
-    };
-    let item = match bank {
-        Bank::Target => Item::Target(part),
-        Bank::Source => Item::Source(part),
-    };
-    Ok((item, rest))
+    let part = word.parse().map_err(|_| Wrong::NoPart(bank, word))?;
+    match bank {
+        Bank::Target => Ok((Item::Target(part), rest)),
+        Bank::Source => Ok((Item::Source(part), rest)),
+    }
 }
 
-fn read_line<'a>(
-    heap: Global,
-    draft: &mut Draft,
-    line: usize,
-    text: &'a [u8],
-) -> Result<(), Wrong<'a>>
-    requires counted { 1 ≤ line }
-{
-    let words = words(heap, text)?;
+fn read_line<'a>(draft: &mut Draft, line: Line, text: &'a [u8]) -> Result<(), Wrong<'a>> {
+    let words = words(draft.heap, text)?;
     let [first, rest @ ..] = words.as_slice() else {
         return Ok(());
     };
@@ -58,7 +49,7 @@ fn read_line<'a>(
     if draft.has(item) {
         return Err(Wrong::TooOften(item));
     }
-    draft.read(heap, line, item, values)
+    draft.read(line, item, values)
 }
 
 // The job that a text describes, or the first mistake in it.
@@ -66,15 +57,13 @@ pub fn parse<'a>(heap: Global, text: &'a [u8]) -> Result<Job, Mistake<'a>>
     ensures line { IfErr result (λ m. 1 ≤ m.line) }
 {
     let mut draft = Draft::new(heap);
-    let mut line = 1;
+    let mut line = Line::first();
     let mut rest = text;
     while !rest.is_empty() {
         let (front, after) = first_line(rest);
-        if let Err(wrong) = read_line(heap, &mut draft, line, front) {
-            return Err(Mistake { line, wrong });
-        }
+        read_line(&mut draft, line, front).map_err(|wrong| Mistake::new(line, wrong))?;
         rest = after;
-        line += 1;
+        line = line.next();
     }
     draft.finish(line)
 }

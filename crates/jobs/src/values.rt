@@ -5,14 +5,11 @@ use job_words::{Number, read_number};
 use std::alloc::Global;
 
 pub(crate) fn value<'a, N: Number>(item: Item, word: &'a str) -> Result<N, Wrong<'a>> {
-    match read_number(word) {
-        Some(value) => Ok(value),
-        None => Err(Wrong::NotNumber {
-            item,
-            word,
-            bits: N::BITS,
-        }),
-    }
+    read_number(word).ok_or(Wrong::NotNumber {
+        item,
+        word,
+        bits: N::BITS,
+    })
 }
 
 pub(crate) fn one_number<'a, N: Number>(item: Item, words: &[&'a str]) -> Result<N, Wrong<'a>> {
@@ -22,7 +19,7 @@ pub(crate) fn one_number<'a, N: Number>(item: Item, words: &[&'a str]) -> Result
     }
 }
 
-pub(crate) fn two_numbers<'a, N: Number + Drop>(
+pub(crate) fn two_numbers<'a, N: Number>(
     item: Item,
     words: &[&'a str],
 ) -> Result<(N, N), Wrong<'a>> {
@@ -35,16 +32,12 @@ pub(crate) fn two_numbers<'a, N: Number + Drop>(
     }
 }
 
-pub(crate) fn list<'a, N: Number + Drop>(
+pub(crate) fn list<'a, N: Number>(
     heap: Global,
     item: Item,
     words: &[&'a str],
 ) -> Result<Vec<N>, Wrong<'a>> {
-    let mut list = Vec::new(heap);
-    for word in words {
-        list.push(value(item, word)?)?;
-    }
-    Ok(list)
+    words.iter().map(|word| value(item, word)).try_collect(heap)
 }
 
 pub(crate) fn letter<'a>(item: Item, words: &[&'a str]) -> Result<char, Wrong<'a>> {
@@ -52,8 +45,8 @@ pub(crate) fn letter<'a>(item: Item, words: &[&'a str]) -> Result<char, Wrong<'a
         return Err(Wrong::Lacks(item, Due::OneLetter));
     };
     let mut letters = word.chars();
-    match (letters.next(), letters.next()) {
-        (Some(letter), None) => Ok(letter),
-        _ => Err(Wrong::Lacks(item, Due::OneLetter)),
-    }
+    let (Some(letter), None) = (letters.next(), letters.next()) else {
+        return Err(Wrong::Lacks(item, Due::OneLetter));
+    };
+    Ok(letter)
 }
