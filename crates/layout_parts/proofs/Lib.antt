@@ -1,3 +1,3 @@
 pub mod Checked
-pub mod Filling
 pub mod Making
+pub mod Tables

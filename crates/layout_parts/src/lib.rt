@@ -10,4 +10,4 @@ pub mod make;
 pub mod parts;
 
 pub use block::{Block, Spot};
-pub use parts::{Parts, Tables};
+pub use parts::Parts;

@@ -4,7 +4,7 @@ use Rattle.std.proofs.lemmas.Nat.{div_below, mod_below}
 use Rattle.std.proofs.lemmas.List.{length-take-le, get_or-take}
 use Rattle.std.proofs.lemmas.Bool.{cond-true, lt-ltb}
 use Rattle.faults.specs.declared.cause.Cause.TheVariants.{Beyond}
-use Rattle.faults.specs.Lists.{Rule, Legal, first_wrong}
+use Rattle.wrong_lists.specs.Lists.{Rule, Legal, first_wrong}
 use Rattle.splits.specs.Blocks.{Sound, row_blocks, column_blocks, row_of, column_of, top, bottom, left, right}
 use Rattle.splits.specs.Owners.{owner_rule, Owned}
 use Rattle.splits.specs.Splits.{split_rule, covering}
@@ -26,10 +26,10 @@ legal may xs f = none_wrong (first_wrong may xs) f
 
 module _ (l : Layout) where
   pub rows_count : length (row_cuts l) ≡ l.row_blocks + 1
-  rows_count = length-take-le (l.row_blocks + 1) l.row_splits (omega (arith, l.down.1, l.tabled.0))
+  rows_count = length-take-le (l.row_blocks + 1) l.tables.row_splits (omega (arith, l.down.1, l.tabled.0))
 
   pub columns_count : length (column_cuts l) ≡ l.column_blocks + 1
-  columns_count = length-take-le (l.column_blocks + 1) l.column_splits (omega (arith, l.across.1, l.tabled.1))
+  columns_count = length-take-le (l.column_blocks + 1) l.tables.column_splits (omega (arith, l.across.1, l.tabled.1))
 
   pub row_spans : row_blocks (grid_of l) ≡ l.row_blocks
   row_spans = omega (arith, rows_count)
@@ -54,14 +54,14 @@ module _ (l : Layout) where
       }
 
   -- what the tables hold in their used parts
-  pub row_cut : (k : ℕ) → k ≤ l.row_blocks → get_or l.row_splits k 0 ≡ get_or (row_cuts l) k 0
-  row_cut k h = sym (get_or-take (l.row_blocks + 1) l.row_splits k 0 (omega arith))
+  pub row_cut : (k : ℕ) → k ≤ l.row_blocks → get_or l.tables.row_splits k 0 ≡ get_or (row_cuts l) k 0
+  row_cut k h = sym (get_or-take (l.row_blocks + 1) l.tables.row_splits k 0 (omega arith))
 
-  pub column_cut : (k : ℕ) → k ≤ l.column_blocks → get_or l.column_splits k 0 ≡ get_or (column_cuts l) k 0
-  column_cut k h = sym (get_or-take (l.column_blocks + 1) l.column_splits k 0 (omega arith))
+  pub column_cut : (k : ℕ) → k ≤ l.column_blocks → get_or l.tables.column_splits k 0 ≡ get_or (column_cuts l) k 0
+  column_cut k h = sym (get_or-take (l.column_blocks + 1) l.tables.column_splits k 0 (omega arith))
 
-  pub owner_held : (b : ℕ) → b < blocks_of l → get_or l.owners b 0 ≡ owner_of l b
-  owner_held b h = sym (get_or-take (l.row_blocks * l.column_blocks) l.owners b 0 (omega (arith, count)))
+  pub owner_held : (b : ℕ) → b < blocks_of l → get_or l.tables.owners b 0 ≡ owner_of l b
+  owner_held b h = sym (get_or-take (l.row_blocks * l.column_blocks) l.tables.owners b 0 (omega (arith, count)))
 
   -- what the code reads of block b
   module _ (b : ℕ) (h : b < l.row_blocks * l.column_blocks) where
@@ -80,16 +80,16 @@ module _ (l : Layout) where
     same_column : b % l.column_blocks ≡ column_of (grid_of l) b
     same_column = ap (λ x. b % x) (sym column_spans)
 
-    pub top_held : get_or l.row_splits (b / l.column_blocks) 0 ≡ top (grid_of l) b
+    pub top_held : get_or l.tables.row_splits (b / l.column_blocks) 0 ≡ top (grid_of l) b
     top_held = row_cut (b / l.column_blocks) (omega (arith, row_index)) ∙ ap (λ x. get_or (row_cuts l) x 0) same_row
 
-    pub bottom_held : get_or l.row_splits (b / l.column_blocks + 1) 0 ≡ bottom (grid_of l) b
+    pub bottom_held : get_or l.tables.row_splits (b / l.column_blocks + 1) 0 ≡ bottom (grid_of l) b
     bottom_held = row_cut (b / l.column_blocks + 1) (omega (arith, row_index)) ∙ ap (λ x. get_or (row_cuts l) (x + 1) 0) same_row
 
-    pub left_held : get_or l.column_splits (b % l.column_blocks) 0 ≡ left (grid_of l) b
+    pub left_held : get_or l.tables.column_splits (b % l.column_blocks) 0 ≡ left (grid_of l) b
     left_held = column_cut (b % l.column_blocks) (omega (arith, column_index)) ∙ ap (λ x. get_or (column_cuts l) x 0) same_column
 
-    pub right_held : get_or l.column_splits (b % l.column_blocks + 1) 0 ≡ right (grid_of l) b
+    pub right_held : get_or l.tables.column_splits (b % l.column_blocks + 1) 0 ≡ right (grid_of l) b
     right_held = column_cut (b % l.column_blocks + 1) (omega (arith, column_index)) ∙ ap (λ x. get_or (column_cuts l) (x + 1) 0) same_column
 
     pub tall : top (grid_of l) b < bottom (grid_of l) b

@@ -1,5 +1,4 @@
 -- When a question to a layout is refused, and what is answered otherwise. Assumes nothing.
---     letter_of o          the letter of an order, R (code 82) or C (code 67)
 --     board_refusal l p    a board that is not below the number of boards
 --     element_refusal l r c    an element outside the matrix
 --     block_refusal l b    a block outside the layout
@@ -9,6 +8,7 @@
 --     IsSpot l b r c v     v says where the element lies, and how far on the next ones of its block lie
 --     IsPlace l share r c v    v is the element's place where each owner has its own part; if no owner's blocks exceed
 --                          the share, it is in that part of the bank
+-- The letter of an order, `letter_of`, is passed on from the crate of orders.
 use Rattle.std.specs.Prelude.{◌≡◌, ℕ, ◌+◌, ◌*◌, Bool, cond, ◌&&◌, Some, None, Option, nat_le, nat_lt}
 use Rattle.faults.specs.declared.cause.Cause.{Cause}
 use Rattle.faults.specs.declared.cause.Cause.TheVariants.{Board, Beyond}
@@ -16,15 +16,10 @@ use Rattle.layout_parts.specs.declared.block.Block.{Block}
 use Rattle.layout_parts.specs.declared.block.Spot.{Spot}
 use Rattle.layouts.specs.declared.layout.Layout.{Layout}
 use Rattle.layouts.specs.Layouts.{grid_of, blocks_of, owner_of, cover_of, offset_of, place_of}
-use Rattle.splits.specs.declared.order.Order.{Order}
-use Rattle.splits.specs.declared.order.Order.TheVariants.{RowMajor, ColumnMajor}
 use Rattle.splits.specs.Blocks.{Covers, top, bottom, left, right, height, width}
 use Rattle.splits.specs.Laws.{Shared, Placed}
+pub use Rattle.splits.specs.Orders.{letter_of}
 use Rattle.splits.specs.Places.{start, row_step, column_step}
-
-abbrev pub letter_of : Order → ℕ
-letter_of RowMajor = 82
-letter_of ColumnMajor = 67
 
 abbrev pub board_refusal : Layout → ℕ → Option Cause
 board_refusal l p = cond (nat_lt p l.boards) None (Some (Board p))

@@ -18,7 +18,7 @@ use Rattle.splits.specs.Laws.{Naming, Shared, Placed}
 use Rattle.splits.specs.Places.{offset, total, place}
 
 abbrev pub grid_of : Layout → Grid
-grid_of l = table_grid l.row_blocks l.column_blocks l.row_splits l.column_splits l.owners l.order
+grid_of l = table_grid l.row_blocks l.column_blocks l.tables.row_splits l.tables.column_splits l.tables.owners l.order
 
 abbrev pub row_cuts : Layout → List ℕ
 row_cuts l = (grid_of l).row_cuts

@@ -15,11 +15,11 @@ pub record Built (o : Order) (n high wide : ℕ) (rs cs os : List ℕ) (l : Layo
   pub rows : l.rows ≡ high
   pub columns : l.columns ≡ wide
   pub lists : grid_of l ≡ grid rs cs os o
-  pub row_rest : drop (length rs) l.row_splits ≡ replicate (33 - length rs) 0
-  pub column_rest : drop (length cs) l.column_splits ≡ replicate (33 - length cs) 0
-  pub owner_rest : drop (length os) l.owners ≡ replicate (1024 - length os) 0
-  pub totals : (p : ℕ) → p < 16 → slice_index l.totals p ≡ total (grid rs cs os o) p
-  pub start_rest : (b : ℕ) → length os ≤ b → slice_index l.starts b ≡ 0
+  pub row_rest : drop (length rs) l.tables.row_splits ≡ replicate (33 - length rs) 0
+  pub column_rest : drop (length cs) l.tables.column_splits ≡ replicate (33 - length cs) 0
+  pub owner_rest : drop (length os) l.tables.owners ≡ replicate (1024 - length os) 0
+  pub totals : (p : ℕ) → p < 16 → slice_index l.tables.totals p ≡ total (grid rs cs os o) p
+  pub start_rest : (b : ℕ) → length os ≤ b → slice_index l.tables.starts b ≡ 0
 
 abbrev pub Made : ℕ → ℕ → ℕ → ℕ → List ℕ → List ℕ → List ℕ → Layout → Type 0
 Made letter n rows columns rs cs os l = (order_of letter ≡ Some l.order) × Built l.order n rows columns rs cs os l

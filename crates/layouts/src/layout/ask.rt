@@ -11,36 +11,26 @@ use layout_parts::Block;
 use splits::Order;
 use splits::cuts::covering_block;
 
-// The fault of a question.
-pub(crate) fn refused(cause: Cause) -> Fault
-    ensures value { (result.cause ≡ cause) × (result.layer ≡ Layer.Layouts) × (result.call ≡ Call.Ask) }
-{
-    Fault {
-        layer: Layer::Layouts,
-        call: Call::Ask,
-        cause,
-    }
-}
-
-// The block of this number, which the layout has.
-pub(crate) fn block_at(layout: &Layout, number: usize) -> Block
-    requires { number < layout.now.row_blocks * layout.now.column_blocks }
-    ensures { IsBlock layout.now number result }
-{
-    let (i, j) = (number / layout.column_blocks, number % layout.column_blocks);
-    let top = layout.row_splits[i] as usize;
-    let left = layout.column_splits[j] as usize;
-    Block {
-        top,
-        left,
-        height: layout.row_splits[i + 1] as usize - top,
-        width: layout.column_splits[j + 1] as usize - left,
-        owner: layout.owners[number] as usize,
-        start: layout.starts[number] as usize,
-    }
-}
-
 impl Layout {
+    // The block of this number, which the layout has.
+    pub(crate) fn block_at(&self, number: usize) -> Block
+        requires { number < self.now.row_blocks * self.now.column_blocks }
+        ensures { IsBlock self.now number result }
+    {
+        let tables = &self.tables;
+        let (i, j) = (number / self.column_blocks, number % self.column_blocks);
+        let top = tables.row_splits[i] as usize;
+        let left = tables.column_splits[j] as usize;
+        Block {
+            top,
+            left,
+            height: tables.row_splits[i + 1] as usize - top,
+            width: tables.column_splits[j + 1] as usize - left,
+            owner: tables.owners[number] as usize,
+            start: tables.starts[number] as usize,
+        }
+    }
+
     pub fn boards(&self) -> usize
         ensures value { result ≡ self.now.boards }
     {
@@ -69,10 +59,7 @@ impl Layout {
     pub fn letter(&self) -> char
         ensures value { result ≡ letter_of self.now.order }
     {
-        match self.order {
-            Order::RowMajor => 'R',
-            Order::ColumnMajor => 'C',
-        }
+        char::from(self.order)
     }
 
     // The number of blocks from top to bottom.
@@ -92,13 +79,13 @@ impl Layout {
     pub fn row_splits(&self) -> &[u16]
         ensures value { result.now ≡ row_cuts self.now }
     {
-        &self.row_splits[0..self.row_blocks + 1]
+        &self.tables.row_splits[0..self.row_blocks + 1]
     }
 
     pub fn column_splits(&self) -> &[u16]
         ensures value { result.now ≡ column_cuts self.now }
     {
-        &self.column_splits[0..self.column_blocks + 1]
+        &self.tables.column_splits[0..self.column_blocks + 1]
     }
 
     // Names the laws of blocks and places, of this layout. It answers true.
@@ -114,9 +101,9 @@ impl Layout {
         ensures cases { Answers Layer.Layouts Call.Ask (board_refusal self.now board) result (λ v. v ≡ total_of self.now board) (Unit {0}) }
     {
         if board >= self.boards {
-            return Err(refused(Cause::Board { number: board }));
+            return Err(Fault::new(Layer::Layouts, Call::Ask, Cause::Board { number: board }));
         }
-        Ok(self.totals[board] as usize)
+        Ok(self.tables.totals[board] as usize)
     }
 
     // The block that covers the element.
@@ -124,7 +111,7 @@ impl Layout {
         ensures cases { Answers Layer.Layouts Call.Ask (element_refusal self.now row column) result (λ v. IsCover self.now row column v) (Unit {0}) }
     {
         if row >= self.rows || column >= self.columns {
-            return Err(refused(Cause::Beyond { index: 0 }));
+            return Err(Fault::new(Layer::Layouts, Call::Ask, Cause::Beyond { index: 0 }));
         }
         let down = covering_block(self.row_splits(), row);
         let across = covering_block(self.column_splits(), column);
@@ -136,8 +123,8 @@ impl Layout {
         ensures cases { Answers Layer.Layouts Call.Ask (block_refusal self.now number) result (λ v. IsBlock self.now number v) (Unit {0}) }
     {
         if number >= self.row_blocks * self.column_blocks {
-            return Err(refused(Cause::Beyond { index: 0 }));
+            return Err(Fault::new(Layer::Layouts, Call::Ask, Cause::Beyond { index: 0 }));
         }
-        Ok(block_at(self, number))
+        Ok(self.block_at(number))
     }
 }

@@ -25,11 +25,7 @@ impl Layout {
             order,
             row_blocks,
             column_blocks,
-            row_splits,
-            column_splits,
-            owners,
-            starts,
-            totals,
+            tables,
         } = Parts::new(
             letter,
             boards,
@@ -46,11 +42,7 @@ impl Layout {
             order,
             row_blocks,
             column_blocks,
-            row_splits,
-            column_splits,
-            owners,
-            starts,
-            totals,
+            tables,
         })
     }
 }

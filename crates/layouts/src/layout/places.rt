@@ -7,7 +7,6 @@ ghost use Rattle.splits.specs.Blocks.{Covers};
 ghost use Rattle.splits.specs.Places.{line, pitch, spot};
 
 use crate::layout::Layout;
-use crate::layout::ask::{block_at, refused};
 use faults::{Call, Cause, Fault, Layer};
 use layout_parts::{Block, Spot};
 use splits::Order;
@@ -20,35 +19,31 @@ fn offset_at(order: Order, block: Block, i: usize, j: usize) -> usize
     block.start + (order.line(i, j) * order.pitch(block.height, block.width) + order.spot(i, j))
 }
 
-// Where an element lies that block `number` covers.
-fn spot_of(layout: &Layout, number: usize, row: usize, column: usize) -> Spot
-    requires { Covers (grid_of layout.now) number row column }
-    ensures { IsSpot layout.now number row column result }
-{
-    let block = block_at(layout, number);
-    let pitch = layout.order.pitch(block.height, block.width);
-    Spot {
-        owner: block.owner,
-        offset: offset_at(layout.order, block, row - block.top, column - block.left),
-        row_step: layout.order.step_along_row(pitch),
-        column_step: layout.order.step_down_column(pitch),
-    }
-}
-
 impl Layout {
+    // Where an element lies that block `number` covers.
+    fn spot_of(&self, number: usize, row: usize, column: usize) -> Spot
+        requires { Covers (grid_of self.now) number row column }
+        ensures { IsSpot self.now number row column result }
+    {
+        let block = self.block_at(number);
+        let pitch = self.order.pitch(block.height, block.width);
+        Spot {
+            owner: block.owner,
+            offset: offset_at(self.order, block, row - block.top, column - block.left),
+            row_step: self.order.step_along_row(pitch),
+            column_step: self.order.step_down_column(pitch),
+        }
+    }
+
     // Where an element of block `number` lies. It costs no search for the block, so a run along a row or
     // down a column of the block asks once and goes on by the steps.
     pub fn spot_in(&self, number: usize, row: usize, column: usize) -> Result<Spot, Fault>
         ensures cases { Answers Layer.Layouts Call.Ask (in_block_refusal self.now number row column) result (λ v. IsSpot self.now number row column v) (Unit {0}) }
     {
-        if number >= self.row_blocks * self.column_blocks {
-            return Err(refused(Cause::Beyond { index: 0 }));
-        }
-        let block = block_at(self, number);
-        if block.covers(row, column) {
-            Ok(spot_of(self, number, row, column))
+        if self.block(number)?.covers(row, column) {
+            Ok(self.spot_of(number, row, column))
         } else {
-            Err(refused(Cause::Beyond { index: 0 }))
+            Err(Fault::new(Layer::Layouts, Call::Ask, Cause::Beyond { index: 0 }))
         }
     }
 
@@ -57,7 +52,7 @@ impl Layout {
         ensures cases { Answers Layer.Layouts Call.Ask (element_refusal self.now row column) result (λ v. IsSpot self.now (cover_of self.now row column) row column v) (Unit {0}) }
     {
         let number = self.cover(row, column)?;
-        Ok(spot_of(self, number, row, column))
+        Ok(self.spot_of(number, row, column))
     }
 
     // The place of an element in a bank whose parts have `share` elements each, every owner having its own part.

@@ -4,7 +4,7 @@ use Rattle.splits.specs.Blocks.{blocks}
 use Rattle.splits.specs.Places.{start, held}
 use Rattle.layout_parts.specs.Given.{checked_grid}
 use Rattle.layout_parts.proofs.Checked.{counted, few, board, little}
-use Rattle.layout_parts.proofs.Filling.{entry_more, tally_more, zeros}
+use Rattle.layout_parts.proofs.Tables.{entry_more, tally_more, zeros}
 use Rattle.layout_parts.proofs.given.Checked.tally.Goals as goal
 
 pub loop-b-init : goal.loop-b-init

@@ -1,6 +1,5 @@
-use Rattle.std.proofs.Common.{refl}
 use Rattle.layouts.proofs.Layouts.{laws}
 use Rattle.layouts.proofs.layout.Layout.laws_stand.Goals as goal
 
-pub returns : goal.returns
-returns c = record { value = refl; laws = laws c.args.self.now }
+pub returns-clause-laws : goal.returns-clause-laws
+returns-clause-laws c = laws c.args.self.now

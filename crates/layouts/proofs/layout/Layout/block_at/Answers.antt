@@ -1,34 +1,34 @@
 use Rattle.std.proofs.Common.{arith}
 use Rattle.layouts.proofs.Layouts.{row_index, top_held, bottom_held, left_held, right_held, tall, wide, few, owner_held, one}
-use Rattle.layouts.proofs.layout.ask.block_at.Goals as goal
+use Rattle.layouts.proofs.layout.Layout.block_at.Goals as goal
 
-pub bounds-layout-i : goal.bounds-layout-i
-bounds-layout-i c = omega (arith, row_index c.args.layout.now c.args.number c.requires, c.args.layout.now.down.1)
+pub bounds-tables-i : goal.bounds-tables-i
+bounds-tables-i c = omega (arith, row_index c.args.self.now c.args.number c.requires, c.args.self.now.down.1)
 
-pub bounds-layout-i-2 : goal.bounds-layout-i-2
-bounds-layout-i-2 c = omega (arith, row_index c.args.layout.now c.args.number c.requires, c.args.layout.now.down.1)
+pub bounds-tables-i-2 : goal.bounds-tables-i-2
+bounds-tables-i-2 c = omega (arith, row_index c.args.self.now c.args.number c.requires, c.args.self.now.down.1)
 
 pub overflow_sub-result : goal.overflow_sub-result
 overflow_sub-result c =
-    let l = c.args.layout.now in
+    let l = c.args.self.now in
     let b = c.args.number in
     omega (arith, top_held l b c.requires, bottom_held l b c.requires, tall l b c.requires)
 
 pub overflow_sub-result-2 : goal.overflow_sub-result-2
 overflow_sub-result-2 c =
-    let l = c.args.layout.now in
+    let l = c.args.self.now in
     let b = c.args.number in
     omega (arith, left_held l b c.requires, right_held l b c.requires, wide l b c.requires)
 
-pub bounds-layout-number : goal.bounds-layout-number
-bounds-layout-number c = omega (arith, few c.args.layout.now, c.requires)
+pub bounds-tables-number : goal.bounds-tables-number
+bounds-tables-number c = omega (arith, few c.args.self.now, c.requires)
 
-pub bounds-layout-number-2 : goal.bounds-layout-number-2
-bounds-layout-number-2 c = omega (arith, few c.args.layout.now, c.requires)
+pub bounds-tables-number-2 : goal.bounds-tables-number-2
+bounds-tables-number-2 c = omega (arith, few c.args.self.now, c.requires)
 
 pub returns : goal.returns
 returns c =
-    let l = c.args.layout.now in
+    let l = c.args.self.now in
     let b = c.args.number in
     let h = c.requires in
     record {
