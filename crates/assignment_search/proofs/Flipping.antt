@@ -3,7 +3,7 @@ use Rattle.std.proofs.Common.{◌≡◌, ℕ, ◌<◌, ◌≤◌, sym, refl, ap,
 use Rattle.std.proofs.lemmas.Bool.{cases_eq}
 use Rattle.assignment_search.specs.declared.tree.Matching.{Matching}
 use Rattle.assignment_search.specs.declared.tree.Tree.{Tree}
-use Rattle.assignment_search.specs.Search.{val}
+use Rattle.assignment_search.specs.Search.{val, rank_of}
 use Rattle.assignment_search.specs.Trees.{Matched}
 use Rattle.assignment_search.specs.Paths.{Nearer, Route, Pairs, Freed, Switched, Switching, Given}
 
@@ -32,7 +32,7 @@ module _ (n root : ℕ) (most : n ≤ 16) (m : Matching) (t : Tree) (e : ℕ) (s
     pairs_given : (hole : ℕ) → Pairs n m t j hole
     pairs_given hole y l d h =
         elim (cases_eq y b) [
-          | inl q ↦ inr (ap (val j.owner) q ∙ g.owner ∙ ap (val t.way) (sym q), omega (arith, s.inside, ap (val t.rank) q))
+          | inl q ↦ inr (ap (val j.owner) q ∙ g.owner ∙ ap (val t.way) (sym q), omega (arith, s.inside, ap (rank_of t) q))
           | inr f ↦
               elim (s.pairs y l f (omega (arith, g.owners y f))) [
                 | inl o ↦ inl (g.owners y f ∙ o)
@@ -57,11 +57,11 @@ module _ (n root : ℕ) (most : n ≤ 16) (m : Matching) (t : Tree) (e : ℕ) (s
       q₀_below : q₀ < n
       q₀_below = omega (arith, q₀_is, near.named)
 
-      q₀_rank : val t.rank q₀ ≡ val t.rank (val m.naming x₀)
-      q₀_rank = ap (val t.rank) q₀_is
+      q₀_rank : rank_of t q₀ ≡ rank_of t (val m.naming x₀)
+      q₀_rank = ap (rank_of t) q₀_is
 
       apart : b ≡ q₀ → ⊥
-      apart q = omega (arith, ap (val t.rank) q, q₀_rank, near.earlier)
+      apart q = omega (arith, ap (rank_of t) q, q₀_rank, near.earlier)
 
       named_more : (x : ℕ) → x < root → val j.naming x < n
       named_more x l =
@@ -106,10 +106,10 @@ module _ (n root : ℕ) (most : n ≤ 16) (m : Matching) (t : Tree) (e : ℕ) (s
                 (omega (arith, own, old.0), ap (val j.naming) own ∙ g.names (val k.owner y) other ∙ old.1))
           ]
 
-      kept_more : (x : ℕ) → x < n → val m.naming x < n → val t.rank (val m.naming x) < val t.rank q₀ → val j.naming x ≡ val m.naming x
+      kept_more : (x : ℕ) → x < n → val m.naming x < n → rank_of t (val m.naming x) < rank_of t q₀ → val j.naming x ≡ val m.naming x
       kept_more x l a r =
           elim (cases_eq x x₀) [
-            | inl q ↦ absurd (omega (arith, ap (λ z. val t.rank (val m.naming z)) q, q₀_rank, r))
+            | inl q ↦ absurd (omega (arith, ap (λ z. rank_of t (val m.naming z)) q, q₀_rank, r))
             | inr d ↦ g.names x d ∙ s.kept x l a (omega (arith, r, q₀_rank, near.earlier))
           ]
 
@@ -178,13 +178,13 @@ module _ (n root : ℕ) (most : n ≤ 16) (m : Matching) (t : Tree) (e : ℕ) (s
 
   -- the same, for a role that is known to be the way
   pub switching_step : (k : Matching) (b x : ℕ) → Switching n m root t k b → x ≡ val t.way b → (x ≡ root → ⊥) → (j : Matching) → Given k x b j
-      → Switching n m root t j (val k.naming x) × (val t.rank (val k.naming x) < val t.rank b)
+      → Switching n m root t j (val k.naming x) × (rank_of t (val k.naming x) < rank_of t b)
   switching_step k b x s e d j g =
       let g' : Given k (val t.way b) b j = subst (λ z. Given k z b j) e g in
       elim (route.steps b s.board s.inside) [
         | inl q ↦ absurd (d (e ∙ q))
         | inr near ↦
-            subst (λ z. Switching n m root t j (val k.naming z) × (val t.rank (val k.naming z) < val t.rank b)) (sym e)
+            subst (λ z. Switching n m root t j (val k.naming z) × (rank_of t (val k.naming z) < rank_of t b)) (sym e)
             (switching_more k b s j g' near, omega (arith, q₀_rank k b s j g' near, near.earlier))
       ]
 

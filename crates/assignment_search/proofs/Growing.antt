@@ -1,5 +1,5 @@
 -- One step of the tree's growth: its next board joins it, and the board's role offers ways to the others.
-use Rattle.std.proofs.Common.{◌≡◌, ℕ, zero, suc, ◌+◌, ◌*◌, ◌^◌, ◌<◌, ◌≤◌, cond, eqb, ◌⊎◌, sym, refl, ap, ◌∙◌, subst, inl, inr, arith}
+use Rattle.std.proofs.Common.{◌≡◌, ℕ, zero, suc, ◌+◌, ◌*◌, ◌^◌, ◌<◌, ◌≤◌, cond, eqb, ◌⊎◌, slice_index_or, None, sym, refl, ap, ◌∙◌, subst, inl, inr, arith}
 use Rattle.std.proofs.lemmas.Bool.{cases_eq, cases_lt, eq-eqb, ne_eqb, cond-true, cond-false}
 use Rattle.assignment_laws.specs.Namings.{total, Permutation}
 use Rattle.assignment_laws.proofs.Totals.{total_same, total_put, put, put_same, put_other, no_gap}
@@ -8,16 +8,16 @@ use Rattle.assignment_search.specs.declared.tree.Matching.{Matching}
 use Rattle.assignment_search.specs.declared.tree.Prices.{Prices}
 use Rattle.assignment_search.specs.declared.tree.Tree.{Tree}
 use Rattle.assignment_costs.specs.Costs.{cost_at}
-use Rattle.assignment_search.specs.Search.{val, Relaxed, Nearest, Planted}
+use Rattle.assignment_search.specs.Search.{val, count_of, rank_of, Relaxed, IsPartial, Nearest, Planted}
 use Rattle.assignment_search.specs.Trees.{Matched, Fair, From, Rooted, unused, Grown, Joined}
 
 -- one board fewer is outside the tree
-unused_joined : (t s : Tree) (n b step : ℕ) → Joined t b step s → b < n → val t.rank b ≡ 0 → 0 < step → unused s n + 1 ≡ unused t n
+unused_joined : (t s : Tree) (n b step : ℕ) → Joined t b step s → b < n → rank_of t b ≡ 0 → 0 < step → unused s n + 1 ≡ unused t n
 unused_joined t s n b step j l z p =
-    let f : ℕ → ℕ = λ y. cond (eqb (val t.rank y) 0) 1 0 in
-    let g : ℕ → ℕ = λ y. cond (eqb (val s.rank y) 0) 1 0 in
-    let here : g b ≡ 0 = cond-false (eqb (val s.rank b) 0) 1 0 (ne_eqb (val s.rank b) 0 (λ e. omega (arith, j.here))) in
-    let was : f b ≡ 1 = cond-true (eqb (val t.rank b) 0) 1 0 (eq-eqb (val t.rank b) 0 z) in
+    let f : ℕ → ℕ = λ y. cond (eqb (rank_of t y) 0) 1 0 in
+    let g : ℕ → ℕ = λ y. cond (eqb (rank_of s y) 0) 1 0 in
+    let here : g b ≡ 0 = cond-false (eqb (rank_of s b) 0) 1 0 (ne_eqb (rank_of s b) 0 (λ e. omega (arith, j.here))) in
+    let was : f b ≡ 1 = cond-true (eqb (rank_of t b) 0) 1 0 (eq-eqb (rank_of t b) 0 z) in
     let each : (y : ℕ) → y < n → g y ≡ put f b 0 y =
     λ y m. elim (cases_eq y b) [ inl e ↦ ap g e ∙ here ∙ sym (put_same f b 0 y e) | inr d ↦ ap (λ v. cond (eqb v 0) 1 0) (j.others y d) ∙ sym (put_other f b 0 y d) ] in
     omega (arith, total_same g (put f b 0) n each, total_put f b 0 n l, was)
@@ -50,11 +50,11 @@ module _ (c : Costs) (p : Prices) (m : Matching) (root : ℕ) (known : Matched c
     joined_way y = ap (λ l. val l y) j.way
 
     -- a board of the tree was there before, or is the one that joined
-    was : (y : ℕ) → 0 < val s.rank y → (y ≡ e) ⊎ (0 < val t.rank y)
+    was : (y : ℕ) → 0 < rank_of s y → (y ≡ e) ⊎ (0 < rank_of t y)
     was y h = elim (cases_eq y e) [ inl q ↦ inl q | inr d ↦ inr (omega (arith, j.others y d)) ]
 
-    stays_inside : (y : ℕ) → 0 < val t.rank y → val s.rank y ≡ val t.rank y
-    stays_inside y h = j.others y (λ q. omega (arith, g.end_outside, ap (val t.rank) q))
+    stays_inside : (y : ℕ) → 0 < rank_of t y → rank_of s y ≡ rank_of t y
+    stays_inside y h = j.others y (λ q. omega (arith, g.end_outside, ap (rank_of t) q))
 
     -- the way to a board, once the next board has joined
     from_joined : (y : ℕ) → y < n → (x : ℕ) → From c p m t y x → From c p m s y x
@@ -66,7 +66,7 @@ module _ (c : Costs) (p : Prices) (m : Matching) (root : ℕ) (known : Matched c
           inside = omega (arith, own, f.inside);
           earlier =
               elim (cases_eq y e) [
-                | inl q ↦ inr (omega (arith, own, g.ranks (val m.naming x) f.named, j.here, ap (val s.rank) q))
+                | inl q ↦ inr (omega (arith, own, g.ranks (val m.naming x) f.named, j.here, ap (rank_of s) q))
                 | inr d ↦
                     elim f.earlier [
                       | inl z ↦ inl (j.others y d ∙ z)
@@ -107,12 +107,12 @@ module _ (c : Costs) (p : Prices) (m : Matching) (root : ℕ) (known : Matched c
                 ];
             outside = λ y l z.
                 elim (cases_eq y e) [
-                  | inl q ↦ absurd (omega (arith, j.here, positive, ap (val s.rank) q))
+                  | inl q ↦ absurd (omega (arith, j.here, positive, ap (rank_of s) q))
                   | inr d ↦ omega (arith, g.rooted.outside y l (sym (j.others y d) ∙ z), joined_distance y, joined_distance e)
                 ];
           }
 
-      pub held_last : (y : ℕ) → y < n → 0 < val s.rank y → (y ≡ e) ⊎ (val m.owner y < 16)
+      pub held_last : (y : ℕ) → y < n → 0 < rank_of s y → (y ≡ e) ⊎ (val m.owner y < 16)
       held_last y l h = elim (was y h) [ inl q ↦ inl q | inr i ↦ inr (g.held y l i) ]
 
     module _ (h : val m.owner e < 16) (r : Tree) (w : Relaxed c p (val m.owner e) (val s.distance e) s r) where
@@ -125,15 +125,15 @@ module _ (c : Costs) (p : Prices) (m : Matching) (root : ℕ) (known : Matched c
       x₀_named : val m.naming x₀ ≡ e
       x₀_named = (known.forth e g.end (no_hole e g.end) h).1
 
-      same_rank : (y : ℕ) → val r.rank y ≡ val s.rank y
-      same_rank y = ap (λ l. val l y) w.rank
+      same_rank : (y : ℕ) → rank_of r y ≡ rank_of s y
+      same_rank y = ap (λ l. count_of (slice_index_or l y None)) w.joined
 
-      inside_same : (y : ℕ) → y < n → 0 < val s.rank y → val r.distance y ≡ val t.distance y
+      inside_same : (y : ℕ) → y < n → 0 < rank_of s y → val r.distance y ≡ val t.distance y
       inside_same y l i = ((w.boards y l).inside i).0 ∙ joined_distance y
 
       shrinks : (y : ℕ) → y < n → val r.distance y ≤ val t.distance y
       shrinks y l =
-          elim (cases_lt 0 (val s.rank y)) [
+          elim (cases_lt 0 (rank_of s y)) [
             | inl i ↦ omega (arith, inside_same y l i)
             | inr z ↦
                 elim ((w.boards y l).outside (omega arith)) [
@@ -145,17 +145,17 @@ module _ (c : Costs) (p : Prices) (m : Matching) (root : ℕ) (known : Matched c
       pub low_more : (y : ℕ) → y < n → val r.distance y ≤ 2 ^ 45
       low_more y l = omega (arith, shrinks y l, g.rooted.short_root y l, c.capped (root * 16 + y), fair.low_boards y l)
 
-      e_joined : 0 < val s.rank e
+      e_joined : 0 < rank_of s e
       e_joined = omega (arith, j.here, positive)
 
       e_same : val r.distance e ≡ val t.distance e
       e_same = inside_same e g.end e_joined
 
       -- every board is at least as far as the one that joined, if it is outside the tree
-      beyond : (y : ℕ) → y < n → val s.rank y ≡ 0 → val t.distance e ≤ val r.distance y
+      beyond : (y : ℕ) → y < n → rank_of s y ≡ 0 → val t.distance e ≤ val r.distance y
       beyond y l z =
           elim (cases_eq y e) [
-            | inl q ↦ absurd (omega (arith, e_joined, ap (val s.rank) q))
+            | inl q ↦ absurd (omega (arith, e_joined, ap (rank_of s) q))
             | inr d ↦
                 elim ((w.boards y l).outside z) [
                   | inl q ↦ omega (arith, q.1, fair.feasible x₀ y x₀_below l, joined_distance e)
@@ -166,7 +166,7 @@ module _ (c : Costs) (p : Prices) (m : Matching) (root : ℕ) (known : Matched c
       -- no board is farther than a way through the role of the board that joined
       short_here : (y : ℕ) → y < n → val r.distance y + val p.roles x₀ ≤ val r.distance e + cost_at c x₀ y + val p.discounts y
       short_here y l =
-          elim (cases_lt 0 (val s.rank y)) [
+          elim (cases_lt 0 (rank_of s y)) [
             | inl i ↦
                 elim (was y i) [
                   | inl q ↦ omega (arith, ap (val r.distance) q, fair.feasible x₀ y x₀_below l)
@@ -179,10 +179,10 @@ module _ (c : Costs) (p : Prices) (m : Matching) (root : ℕ) (known : Matched c
                 ]
           ]
 
-      short_more : (x y : ℕ) → x < n → y < n → val m.naming x < n → 0 < val r.rank (val m.naming x)
+      short_more : (x y : ℕ) → x < n → y < n → val m.naming x < n → 0 < rank_of r (val m.naming x)
           → val r.distance y + val p.roles x ≤ val r.distance (val m.naming x) + cost_at c x y + val p.discounts y
       short_more x y a b k i =
-          let i' : 0 < val s.rank (val m.naming x) = omega (arith, same_rank (val m.naming x), i) in
+          let i' : 0 < rank_of s (val m.naming x) = omega (arith, same_rank (val m.naming x), i) in
           elim (was (val m.naming x) i') [
             | inl q ↦
                 (let own : x ≡ x₀ = sym (known.back x a k).0 ∙ ap (val m.owner) q in
@@ -210,20 +210,20 @@ module _ (c : Costs) (p : Prices) (m : Matching) (root : ℕ) (known : Matched c
             | inr f ↦ inr (subst (From c p m r y) (sym k) (from_kept y (val s.way y) l d f))
           ]
 
-      from_new : (y : ℕ) → val s.rank y ≡ 0 → val r.distance y + val p.roles x₀ ≡ val s.distance e + cost_at c x₀ y + val p.discounts y
+      from_new : (y : ℕ) → rank_of s y ≡ 0 → val r.distance y + val p.roles x₀ ≡ val s.distance e + cost_at c x₀ y + val p.discounts y
           → From c p m r y x₀
       from_new y z q =
           record {
             below = x₀_below;
             named = omega (arith, x₀_named, g.end);
-            inside = omega (arith, ap (val r.rank) x₀_named, same_rank e, e_joined);
+            inside = omega (arith, ap (rank_of r) x₀_named, same_rank e, e_joined);
             earlier = inl (same_rank y ∙ z);
             length = omega (arith, q, ap (val r.distance) x₀_named, e_same, joined_distance e);
           }
 
       way_more : (y : ℕ) → y < n → Way r y
       way_more y l =
-          elim (cases_lt 0 (val s.rank y)) [
+          elim (cases_lt 0 (rank_of s y)) [
             | inl i ↦ way_kept y l ((w.boards y l).inside i).0 ((w.boards y l).inside i).1
             | inr z ↦
                 elim ((w.boards y l).outside (omega arith)) [
@@ -232,79 +232,77 @@ module _ (c : Costs) (p : Prices) (m : Matching) (root : ℕ) (known : Matched c
                 ]
           ]
 
-      held_more : (y : ℕ) → y < n → 0 < val r.rank y → val m.owner y < 16
+      held_more : (y : ℕ) → y < n → 0 < rank_of r y → val m.owner y < 16
       held_more y l i =
           elim (was y (omega (arith, same_rank y, i))) [
             | inl q ↦ omega (arith, ap (val m.owner) q)
             | inr k ↦ g.held y l k
           ]
 
-      ranks_more : (y : ℕ) → y < n → val r.rank y < step + 1
+      ranks_more : (y : ℕ) → y < n → rank_of r y < step + 1
       ranks_more y l =
           elim (cases_eq y e) [
-            | inl q ↦ omega (arith, same_rank y, j.here, ap (val s.rank) q)
+            | inl q ↦ omega (arith, same_rank y, j.here, ap (rank_of s) q)
             | inr d ↦ omega (arith, same_rank y, j.others y d, g.ranks y l)
           ]
 
       count_more : unused r n + (step + 1) ≡ n + 1
       count_more =
-          let same : unused r n ≡ unused s n = ap (λ l. total (λ y. cond (eqb (val l y) 0) 1 0) n) w.rank in
+          let same : unused r n ≡ unused s n = ap (λ l. total (λ y. cond (eqb (count_of (slice_index_or l y None)) 0) 1 0) n) w.joined in
           omega (arith, same, unused_joined t s n e step j g.end g.end_outside positive, g.count)
 
+      pub partial_more : root < n → IsPartial n r
+      partial_more l h = some_free l (λ y b. held_more y b (h y b))
+
       -- the tree has its next board
-      pub grown_more : root < n → (e' : ℕ) → Nearest n r e' → Grown c p m root r e' (step + 1)
-      grown_more l e' near =
-          elim near [
-            | inl q ↦ absurd (some_free l (λ y b. held_more y b (q.1 y b)))
-            | inr q ↦
+      pub grown_more : (e' : ℕ) → Nearest n r e' → Grown c p m root r e' (step + 1)
+      grown_more e' near =
+          record {
+            end = near.below;
+            end_outside = near.outside;
+            rooted =
                 record {
-                  end = q.0;
-                  end_outside = q.1;
-                  rooted =
-                      record {
-                        short_root = λ y b. omega (arith, g.rooted.short_root y b, shrinks y b);
-                        short = short_more;
-                        from = way_more;
-                        inside = λ y b i.
-                            let far : val t.distance e ≤ val r.distance e' = beyond e' q.0 (sym (same_rank e') ∙ q.1) in
-                            let i' : 0 < val s.rank y = omega (arith, same_rank y, i) in
-                            elim (was y i') [
-                              | inl o ↦ omega (arith, far, e_same, ap (val r.distance) o)
-                              | inr k ↦ omega (arith, far, inside_same y b i', g.rooted.inside y b k)
-                            ];
-                        outside = q.2;
-                      };
-                  ranks = ranks_more;
-                  held = held_more;
-                  count = count_more;
-                }
-          ]
+                  short_root = λ y b. omega (arith, g.rooted.short_root y b, shrinks y b);
+                  short = short_more;
+                  from = way_more;
+                  inside = λ y b i.
+                      let far : val t.distance e ≤ val r.distance e' = beyond e' near.below (sym (same_rank e') ∙ near.outside) in
+                      let i' : 0 < rank_of s y = omega (arith, same_rank y, i) in
+                      elim (was y i') [
+                        | inl o ↦ omega (arith, far, e_same, ap (val r.distance) o)
+                        | inr k ↦ omega (arith, far, inside_same y b i', g.rooted.inside y b k)
+                      ];
+                  outside = near.least;
+                };
+            ranks = ranks_more;
+            held = held_more;
+            count = count_more;
+          }
 
 -- the tree of the root alone
-ones : (t : Tree) (n : ℕ) → ((y : ℕ) → val t.rank y ≡ 0) → unused t n ≡ n
+ones : (t : Tree) (n : ℕ) → ((y : ℕ) → rank_of t y ≡ 0) → unused t n ≡ n
 ones t zero z = refl
 ones t (suc n) z =
-    let one : ◌≡◌ {A = ℕ} (cond (eqb (val t.rank n) 0) 1 0) 1 = cond-true (eqb (val t.rank n) 0) 1 0 (eq-eqb (val t.rank n) 0 (z n)) in
+    let one : ◌≡◌ {A = ℕ} (cond (eqb (rank_of t n) 0) 1 0) 1 = cond-true (eqb (rank_of t n) 0) 1 0 (eq-eqb (rank_of t n) 0 (z n)) in
     omega (arith, ones t n z, one)
+
+pub partial_first : (c : Costs) (p : Prices) (root : ℕ) (t : Tree) → Planted c p root t → IsPartial c.boards t
+partial_first c p root t a h = omega (arith, h 0 (omega (arith, c.some)), a.rank 0)
 
 pub grown_first : (c : Costs) (p : Prices) (m : Matching) (root : ℕ) (t : Tree) → Planted c p root t → (e : ℕ) → Nearest c.boards t e → Grown c p m root t e 1
 grown_first c p m root t a e near =
-    elim near [
-      | inl q ↦ absurd (omega (arith, q.1 0 (omega (arith, c.some)), a.rank 0))
-      | inr q ↦
+    record {
+      end = near.below;
+      end_outside = near.outside;
+      rooted =
           record {
-            end = q.0;
-            end_outside = q.1;
-            rooted =
-                record {
-                  short_root = λ y l. omega (arith, a.distance y l);
-                  short = λ x y k l b i. absurd (omega (arith, i, a.rank (val m.naming x)));
-                  from = λ y l. inl (a.way y (omega (arith, c.most)), a.distance y l);
-                  inside = λ y l i. absurd (omega (arith, i, a.rank y));
-                  outside = q.2;
-                };
-            ranks = λ y l. omega (arith, a.rank y);
-            held = λ y l i. absurd (omega (arith, i, a.rank y));
-            count = omega (arith, ones t c.boards a.rank);
-          }
-    ]
+            short_root = λ y l. omega (arith, a.distance y l);
+            short = λ x y k l b i. absurd (omega (arith, i, a.rank (val m.naming x)));
+            from = λ y l. inl (a.way y (omega (arith, c.most)), a.distance y l);
+            inside = λ y l i. absurd (omega (arith, i, a.rank y));
+            outside = near.least;
+          };
+      ranks = λ y l. omega (arith, a.rank y);
+      held = λ y l i. absurd (omega (arith, i, a.rank y));
+      count = omega (arith, ones t c.boards a.rank);
+    }

@@ -6,16 +6,16 @@ use Rattle.assignment_search.specs.declared.tree.Matching.{Matching}
 use Rattle.assignment_search.specs.declared.tree.Prices.{Prices}
 use Rattle.assignment_search.specs.declared.tree.Tree.{Tree}
 use Rattle.assignment_costs.specs.Costs.{cost_at}
-use Rattle.assignment_search.specs.Search.{val}
+use Rattle.assignment_search.specs.Search.{val, rank_of}
 use Rattle.assignment_search.specs.Trees.{Matched, Fair, Held, Found}
 use Rattle.assignment_search.specs.Paths.{gap_of, rise_of, Settled, Route, Switched}
 
 -- the gap of a board outside the tree, and of one inside it
-gap_outside : (t : Tree) (far y : ℕ) → val t.rank y ≡ 0 → gap_of t far y ≡ 0
-gap_outside t far y z = cond-true (eqb (val t.rank y) 0) 0 (far - val t.distance y) (eq-eqb (val t.rank y) 0 z)
+gap_outside : (t : Tree) (far y : ℕ) → rank_of t y ≡ 0 → gap_of t far y ≡ 0
+gap_outside t far y z = cond-true (eqb (rank_of t y) 0) 0 (far - val t.distance y) (eq-eqb (rank_of t y) 0 z)
 
-gap_inside : (t : Tree) (far y : ℕ) → 0 < val t.rank y → gap_of t far y ≡ far - val t.distance y
-gap_inside t far y i = cond-false (eqb (val t.rank y) 0) 0 (far - val t.distance y) (ne_eqb (val t.rank y) 0 (λ z. omega arith))
+gap_inside : (t : Tree) (far y : ℕ) → 0 < rank_of t y → gap_of t far y ≡ far - val t.distance y
+gap_inside t far y i = cond-false (eqb (rank_of t y) 0) 0 (far - val t.distance y) (ne_eqb (rank_of t y) 0 (λ z. omega arith))
 
 rise_named : (m : Matching) (t : Tree) (far x : ℕ) → val m.naming x < 16 → rise_of m t far x ≡ gap_of t far (val m.naming x)
 rise_named m t far x l = cond-true (ltb (val m.naming x) 16) (gap_of t far (val m.naming x)) 0 (lt-ltb (val m.naming x) 16 l)
@@ -36,7 +36,7 @@ module _
   -- what a way of length d, from a role that rises to far, leaves at board y
   leaves : (u d x y : ℕ) → y < c.boards → d ≤ far → val t.distance y + u ≤ d + cost_at c x y + val p.discounts y → u + (far - d) ≤ cost_at c x y + val q.discounts y
   leaves u d x y l k h =
-      elim (cases_lt 0 (val t.rank y)) [
+      elim (cases_lt 0 (rank_of t y)) [
         | inl i ↦ omega (arith, s.boards y l, gap_inside t far y i, f.rooted.inside y l i)
         | inr z ↦ omega (arith, s.boards y l, f.rooted.outside y l (omega arith))
       ]
@@ -53,7 +53,7 @@ module _
               | inl l ↦
                   (let named : val m.naming x < c.boards = known.named x l in
                   let rise : rise_of m t far x ≡ gap_of t far (val m.naming x) = rise_named m t far x (omega (arith, c.most)) in
-                  elim (cases_lt 0 (val t.rank (val m.naming x))) [
+                  elim (cases_lt 0 (rank_of t (val m.naming x))) [
                     | inl i ↦
                         omega (
                           arith,
@@ -71,7 +71,7 @@ module _
 
   free_more : (y : ℕ) → y < c.boards → 16 ≤ val m.owner y → val q.discounts y ≡ 0
   free_more y l h =
-      elim (cases_lt 0 (val t.rank y)) [
+      elim (cases_lt 0 (rank_of t y)) [
         | inl i ↦
             elim (f.held y l i) [
               | inl o ↦ omega (arith, s.boards y l, gap_inside t far y i, ap (val t.distance) o, fair.free y l h)
@@ -100,7 +100,7 @@ module _
       ]
 
   -- the prices are tight along the tree's ways
-  tight_way : (y : ℕ) → y < c.boards → 0 < val t.rank y → val q.roles (val t.way y) ≡ cost_at c (val t.way y) y + val q.discounts y
+  tight_way : (y : ℕ) → y < c.boards → 0 < rank_of t y → val q.roles (val t.way y) ≡ cost_at c (val t.way y) y + val q.discounts y
   tight_way y l i =
       let fall = f.rooted.inside y l i in
       elim (f.rooted.from y l) [

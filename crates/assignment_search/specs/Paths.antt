@@ -7,11 +7,11 @@ use Rattle.std.specs.Prelude.{◌≡◌, ℕ, ◌+◌, ◌-◌, ◌<◌, ◌≤�
 use Rattle.assignment_search.specs.declared.tree.Matching.{Matching}
 use Rattle.assignment_search.specs.declared.tree.Prices.{Prices}
 use Rattle.assignment_search.specs.declared.tree.Tree.{Tree}
-use Rattle.assignment_search.specs.Search.{val}
+use Rattle.assignment_search.specs.Search.{val, rank_of}
 use Rattle.assignment_search.specs.Trees.{Matched}
 
 abbrev pub gap_of : Tree → ℕ → ℕ → ℕ
-gap_of t far b = cond (val t.rank b == 0) 0 (far - val t.distance b)
+gap_of t far b = cond (rank_of t b == 0) 0 (far - val t.distance b)
 
 -- a role rises as its board does
 abbrev pub rise_of : Matching → Tree → ℕ → ℕ → ℕ
@@ -26,20 +26,20 @@ pub record Settled (n : ℕ) (m : Matching) (root : ℕ) (t : Tree) (far : ℕ) 
 pub record Nearer (n : ℕ) (m : Matching) (t : Tree) (y x : ℕ) : Type 0 where
   pub below : x < n
   pub named : val m.naming x < n
-  pub inside : 0 < val t.rank (val m.naming x)
-  pub earlier : val t.rank (val m.naming x) < val t.rank y
+  pub inside : 0 < rank_of t (val m.naming x)
+  pub earlier : rank_of t (val m.naming x) < rank_of t y
 
 pub record Route (n : ℕ) (m : Matching) (root : ℕ) (t : Tree) (e : ℕ) : Type 0 where
   pub end : e < n
   pub free : 16 ≤ val m.owner e
-  pub inside : 0 < val t.rank e
-  pub steps : (y : ℕ) → y < n → 0 < val t.rank y → (val t.way y ≡ root) ⊎ Nearer n m t y (val t.way y)
+  pub inside : 0 < rank_of t e
+  pub steps : (y : ℕ) → y < n → 0 < rank_of t y → (val t.way y ≡ root) ⊎ Nearer n m t y (val t.way y)
 
 -- whoever holds a board held it before, or is the role from which the tree reaches it
 abbrev pub Pairs : ℕ → Matching → Tree → Matching → ℕ → Type 0
 Pairs n m t k hole =
     (y : ℕ) → y < n → (y ≢ hole) → val k.owner y < 16
-    → (val k.owner y ≡ val m.owner y) ⊎ ((val k.owner y ≡ val t.way y) × (0 < val t.rank y))
+    → (val k.owner y ≡ val m.owner y) ⊎ ((val k.owner y ≡ val t.way y) × (0 < rank_of t y))
 
 -- a board that is free was free before
 abbrev pub Freed : ℕ → Matching → Matching → ℕ → Type 0
@@ -53,11 +53,11 @@ pub record Switched (n : ℕ) (m : Matching) (root : ℕ) (t : Tree) (k : Matchi
 -- the path is switched from its end up to board b, which waits for its new role
 pub record Switching (n : ℕ) (m : Matching) (root : ℕ) (t : Tree) (k : Matching) (b : ℕ) : Type 0 where
   pub board : b < n
-  pub inside : 0 < val t.rank b
+  pub inside : 0 < rank_of t b
   pub matched : Matched n root k b
   pub pairs : Pairs n m t k b
   pub freed : Freed n m k b
-  pub kept : (x : ℕ) → x < n → val m.naming x < n → val t.rank (val m.naming x) < val t.rank b → val k.naming x ≡ val m.naming x
+  pub kept : (x : ℕ) → x < n → val m.naming x < n → rank_of t (val m.naming x) < rank_of t b → val k.naming x ≡ val m.naming x
 
 -- role x has taken board b
 pub record Given (m : Matching) (x b : ℕ) (k : Matching) : Type 0 where

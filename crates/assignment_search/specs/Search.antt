@@ -1,8 +1,11 @@
 -- What the search for a least naming keeps true. Assumes nothing.
 --     val xs k        the entry of a table at k
+--     rank_of t y     the step at which board y joined the tree, counted from 1, and 0 for a board outside it
+--     IsPartial       some board is outside the tree
+--     Nearest         a board outside the tree that no other one there is nearer than
 --     Offered         a board of the tree after it may be reached from one more role
 --     Relaxed         the tree after every board outside it may be reached from one more role
-use Rattle.std.specs.Prelude.{◌≡◌, ℕ, ◌+◌, ◌<◌, ◌≤◌, ◌⊎◌, List, ◌≢◌, slice_index}
+use Rattle.std.specs.Prelude.{◌≡◌, ℕ, ◌+◌, ◌<◌, ◌≤◌, ◌⊎◌, List, Some, None, Option, ◌≢◌, slice_index, slice_index_or}
 use Rattle.assignment_costs.specs.declared.costs.Costs.{Costs}
 use Rattle.assignment_search.specs.declared.tree.Prices.{Prices}
 use Rattle.assignment_search.specs.declared.tree.Tree.{Tree}
@@ -11,9 +14,16 @@ use Rattle.assignment_costs.specs.Costs.{cost_at}
 abbrev pub val : List ℕ → ℕ → ℕ
 val xs k = slice_index xs k
 
+abbrev pub count_of : Option ℕ → ℕ
+count_of None = 0
+count_of (Some k) = k + 1
+
+abbrev pub rank_of : Tree → ℕ → ℕ
+rank_of t y = count_of (slice_index_or t.joined y None)
+
 -- board y is offered a way of length r from role x
 pub record Offered (t : Tree) (y x r : ℕ) (s : Tree) : Type 0 where
-  pub rank : s.rank ≡ t.rank
+  pub joined : s.joined ≡ t.joined
   pub here :
       ((val s.way y ≡ x) × (val s.distance y ≡ r) × (r ≤ val t.distance y))
       ⊎ ((val s.way y ≡ val t.way y) × (val s.distance y ≡ val t.distance y) × (val t.distance y ≤ r))
@@ -21,29 +31,31 @@ pub record Offered (t : Tree) (y x r : ℕ) (s : Tree) : Type 0 where
 
 -- board y after an offer from role x at distance d, if it is outside the tree
 pub record Better (c : Costs) (p : Prices) (x d : ℕ) (t s : Tree) (y : ℕ) : Type 0 where
-  pub inside : 0 < val t.rank y → (val s.distance y ≡ val t.distance y) × (val s.way y ≡ val t.way y)
-  pub outside : val t.rank y ≡ 0
+  pub inside : 0 < rank_of t y → (val s.distance y ≡ val t.distance y) × (val s.way y ≡ val t.way y)
+  pub outside : rank_of t y ≡ 0
       → ((val s.way y ≡ x) × (val s.distance y + val p.roles x ≡ d + cost_at c x y + val p.discounts y) × (val s.distance y ≤ val t.distance y))
       ⊎ ((val s.way y ≡ val t.way y) × (val s.distance y ≡ val t.distance y) × (val t.distance y + val p.roles x ≤ d + cost_at c x y + val p.discounts y))
 
 pub record Relaxed (c : Costs) (p : Prices) (x d : ℕ) (t s : Tree) : Type 0 where
-  pub rank : s.rank ≡ t.rank
+  pub joined : s.joined ≡ t.joined
   pub boards : (y : ℕ) → y < c.boards → Better c p x d t s y
 
 -- the first boards of a table have been seen, and the others are as they were
 pub record Relaxing (c : Costs) (p : Prices) (x d : ℕ) (t s : Tree) (k : ℕ) : Type 0 where
-  pub rank : s.rank ≡ t.rank
+  pub joined : s.joined ≡ t.joined
   pub seen : (y : ℕ) → y < k → Better c p x d t s y
   pub unseen : (y : ℕ) → k ≤ y → (val s.distance y ≡ val t.distance y) × (val s.way y ≡ val t.way y)
 
--- board e is a nearest one outside the tree, and 16 says that there is none
-abbrev pub Nearest : ℕ → Tree → ℕ → Type 0
-Nearest n t e =
-    ((e ≡ 16) × ((y : ℕ) → y < n → 0 < val t.rank y))
-    ⊎ ((e < n) × (val t.rank e ≡ 0) × ((y : ℕ) → y < n → val t.rank y ≡ 0 → val t.distance e ≤ val t.distance y))
+abbrev pub IsPartial : ℕ → Tree → Type 0
+IsPartial n t = ((y : ℕ) → y < n → 0 < rank_of t y) → ⊥
+
+pub record Nearest (n : ℕ) (t : Tree) (e : ℕ) : Type 0 where
+  pub below : e < n
+  pub outside : rank_of t e ≡ 0
+  pub least : (y : ℕ) → y < n → rank_of t y ≡ 0 → val t.distance e ≤ val t.distance y
 
 -- the tree of one root alone
 pub record Planted (c : Costs) (p : Prices) (x : ℕ) (t : Tree) : Type 0 where
-  pub rank : (y : ℕ) → val t.rank y ≡ 0
+  pub rank : (y : ℕ) → rank_of t y ≡ 0
   pub way : (y : ℕ) → y < 16 → val t.way y ≡ x
   pub distance : (y : ℕ) → y < c.boards → val t.distance y + val p.roles x ≡ cost_at c x y + val p.discounts y

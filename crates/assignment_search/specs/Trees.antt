@@ -14,7 +14,7 @@ use Rattle.assignment_search.specs.declared.tree.Matching.{Matching}
 use Rattle.assignment_search.specs.declared.tree.Prices.{Prices}
 use Rattle.assignment_search.specs.declared.tree.Tree.{Tree}
 use Rattle.assignment_costs.specs.Costs.{cost_at}
-use Rattle.assignment_search.specs.Search.{val}
+use Rattle.assignment_search.specs.Search.{val, rank_of}
 
 pub record Matched (n root : ℕ) (m : Matching) (hole : ℕ) : Type 0 where
   pub named : (x : ℕ) → x < root → val m.naming x < n
@@ -37,36 +37,36 @@ Held c p m hole =
 pub record From (c : Costs) (p : Prices) (m : Matching) (t : Tree) (y x : ℕ) : Type 0 where
   pub below : x < c.boards
   pub named : val m.naming x < c.boards
-  pub inside : 0 < val t.rank (val m.naming x)
-  pub earlier : (val t.rank y ≡ 0) ⊎ (val t.rank (val m.naming x) < val t.rank y)
+  pub inside : 0 < rank_of t (val m.naming x)
+  pub earlier : (rank_of t y ≡ 0) ⊎ (rank_of t (val m.naming x) < rank_of t y)
   pub length : val t.distance y + val p.roles x ≡ val t.distance (val m.naming x) + cost_at c x y + val p.discounts y
 
 pub record Rooted (c : Costs) (p : Prices) (m : Matching) (root : ℕ) (t : Tree) (e : ℕ) : Type 0 where
   pub short_root : (y : ℕ) → y < c.boards → val t.distance y + val p.roles root ≤ cost_at c root y + val p.discounts y
-  pub short : (x y : ℕ) → x < c.boards → y < c.boards → val m.naming x < c.boards → 0 < val t.rank (val m.naming x)
+  pub short : (x y : ℕ) → x < c.boards → y < c.boards → val m.naming x < c.boards → 0 < rank_of t (val m.naming x)
       → val t.distance y + val p.roles x ≤ val t.distance (val m.naming x) + cost_at c x y + val p.discounts y
   pub from : (y : ℕ) → y < c.boards
       → ((val t.way y ≡ root) × (val t.distance y + val p.roles root ≡ cost_at c root y + val p.discounts y))
       ⊎ From c p m t y (val t.way y)
-  pub inside : (y : ℕ) → y < c.boards → 0 < val t.rank y → val t.distance y ≤ val t.distance e
-  pub outside : (y : ℕ) → y < c.boards → val t.rank y ≡ 0 → val t.distance e ≤ val t.distance y
+  pub inside : (y : ℕ) → y < c.boards → 0 < rank_of t y → val t.distance y ≤ val t.distance e
+  pub outside : (y : ℕ) → y < c.boards → rank_of t y ≡ 0 → val t.distance e ≤ val t.distance y
 
 -- how many of n boards are outside the tree
 abbrev pub unused : Tree → ℕ → ℕ
-unused t n = total (λ y. cond (val t.rank y == 0) 1 0) n
+unused t n = total (λ y. cond (rank_of t y == 0) 1 0) n
 
 pub record Grown (c : Costs) (p : Prices) (m : Matching) (root : ℕ) (t : Tree) (e step : ℕ) : Type 0 where
   pub end : e < c.boards
-  pub end_outside : val t.rank e ≡ 0
+  pub end_outside : rank_of t e ≡ 0
   pub rooted : Rooted c p m root t e
-  pub ranks : (y : ℕ) → y < c.boards → val t.rank y < step
-  pub held : (y : ℕ) → y < c.boards → 0 < val t.rank y → val m.owner y < 16
+  pub ranks : (y : ℕ) → y < c.boards → rank_of t y < step
+  pub held : (y : ℕ) → y < c.boards → 0 < rank_of t y → val m.owner y < 16
   pub count : unused t c.boards + step ≡ c.boards + 1
 
 -- board b has joined the tree at a step
 pub record Joined (t : Tree) (b step : ℕ) (s : Tree) : Type 0 where
-  pub here : val s.rank b ≡ step
-  pub others : (k : ℕ) → (k ≢ b) → val s.rank k ≡ val t.rank k
+  pub here : rank_of s b ≡ step
+  pub others : (k : ℕ) → (k ≢ b) → rank_of s k ≡ rank_of t k
   pub distance : s.distance ≡ t.distance
   pub way : s.way ≡ t.way
 
@@ -74,9 +74,9 @@ pub record Joined (t : Tree) (b step : ℕ) (s : Tree) : Type 0 where
 pub record Found (c : Costs) (p : Prices) (m : Matching) (root : ℕ) (t : Tree) (e : ℕ) : Type 0 where
   pub end : e < c.boards
   pub free : 16 ≤ val m.owner e
-  pub end_inside : 0 < val t.rank e
+  pub end_inside : 0 < rank_of t e
   pub rooted : Rooted c p m root t e
-  pub held : (y : ℕ) → y < c.boards → 0 < val t.rank y → (y ≡ e) ⊎ (val m.owner y < 16)
+  pub held : (y : ℕ) → y < c.boards → 0 < rank_of t y → (y ≡ e) ⊎ (val m.owner y < 16)
 
 -- every role has a board, and the prices are fair and tight
 pub record Full (c : Costs) (p : Prices) (m : Matching) : Type 0 where

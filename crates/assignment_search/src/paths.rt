@@ -1,7 +1,7 @@
 // Putting a shortest path to use: the prices rise, and its roles take their new boards.
 ghost use Rattle.std.specs.Prelude.{◌≡◌, ℕ, ◌+◌, ◌*◌, ◌^◌, ◌<◌, ◌≤◌};
 ghost use Rattle.assignment_search.specs.Paths.{gap_of, rise_of, Settled, Route, Switched, Given};
-ghost use Rattle.assignment_search.specs.Search.{val};
+ghost use Rattle.assignment_search.specs.Search.{val, rank_of};
 ghost use Rattle.assignment_search.specs.Trees.{Matched};
 
 use crate::tree::{Matching, Prices, Tree};
@@ -9,10 +9,10 @@ use crate::tree::{Matching, Prices, Tree};
 // How much nearer than `far` a board of the tree is.
 fn gap(tree: &Tree, far: u64, board: usize) -> u64
     requires board { board < 16 }
-    requires near { 0 < val tree.now.rank board → val tree.now.distance board ≤ far }
+    requires near { 0 < rank_of tree.now board → val tree.now.distance board ≤ far }
     ensures { result ≡ gap_of tree.now far board }
 {
-    if tree.rank[board] == 0 {
+    if tree.joined[board].is_none() {
         0
     } else {
         far - tree.distance[board]
@@ -32,7 +32,7 @@ pub(crate) fn settle(
     requires root { root < boards }
     requires far { far ≤ 2 ^ 45 }
     requires named { (x : ℕ) → x < boards → val matching.now.naming x < 16 → val matching.now.naming x < boards }
-    requires near { (y : ℕ) → y < boards → 0 < val tree.now.rank y → val tree.now.distance y ≤ far }
+    requires near { (y : ℕ) → y < boards → 0 < rank_of tree.now y → val tree.now.distance y ≤ far }
     requires roles { (x : ℕ) → x < boards → val prices.old.roles x ≤ 2 ^ 44 }
     requires discounts { (y : ℕ) → y < boards → val prices.old.discounts y ≤ 2 ^ 44 }
     ensures { Settled boards matching.now root tree.now far prices.old prices.new }
@@ -46,7 +46,7 @@ fn raise_roles(boards: usize, prices: &mut Prices, matching: &Matching, tree: &T
     requires most { boards ≤ 16 }
     requires far { far ≤ 2 ^ 45 }
     requires named { (x : ℕ) → x < boards → val matching.now.naming x < 16 → val matching.now.naming x < boards }
-    requires near { (y : ℕ) → y < boards → 0 < val tree.now.rank y → val tree.now.distance y ≤ far }
+    requires near { (y : ℕ) → y < boards → 0 < rank_of tree.now y → val tree.now.distance y ≤ far }
     requires roles { (x : ℕ) → x < boards → val prices.old.roles x ≤ 2 ^ 44 }
     ensures raised { (x : ℕ) → x < boards → val prices.new.roles x ≡ val prices.old.roles x + rise_of matching.now tree.now far x }
     ensures same { prices.new.discounts ≡ prices.old.discounts }
@@ -62,7 +62,7 @@ fn raise_roles(boards: usize, prices: &mut Prices, matching: &Matching, tree: &T
 fn raise_boards(boards: usize, prices: &mut Prices, tree: &Tree, far: u64)
     requires most { boards ≤ 16 }
     requires far { far ≤ 2 ^ 45 }
-    requires near { (y : ℕ) → y < boards → 0 < val tree.now.rank y → val tree.now.distance y ≤ far }
+    requires near { (y : ℕ) → y < boards → 0 < rank_of tree.now y → val tree.now.distance y ≤ far }
     requires discounts { (y : ℕ) → y < boards → val prices.old.discounts y ≤ 2 ^ 44 }
     ensures raised { (y : ℕ) → y < boards → val prices.new.discounts y ≡ val prices.old.discounts y + gap_of tree.now far y }
     ensures same { prices.new.roles ≡ prices.old.roles }

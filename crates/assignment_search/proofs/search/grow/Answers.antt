@@ -1,5 +1,5 @@
-use Rattle.std.proofs.Common.{arith}
-use Rattle.assignment_search.proofs.Growing.{grown_first, grown_more, low_more}
+use Rattle.std.proofs.Common.{◌+◌, arith}
+use Rattle.assignment_search.proofs.Growing.{grown_first, grown_more, low_more, partial_more, rooted_last, held_last}
 use Rattle.assignment_search.proofs.search.grow.Goals as goal
 
 pub loop-end-init : goal.loop-end-init
@@ -15,29 +15,63 @@ nearest-end-requires-in-loop-end c =
       low =
           low_more c.args.costs.now c.args.prices.now c.args.matching.now c.args.root c.requires.matched c.requires.fair c.loop-end.tree
           c.loop-end.end
-          c.loop-end.step
+          (c.loop-end.step + 1)
           c.loop-end.invariant
           c.join.new.tree
           c.join.ensures
           c.loop-end-test.true
           c.relax.new.tree
           c.relax.ensures;
+      outside =
+          partial_more c.args.costs.now c.args.prices.now c.args.matching.now c.args.root c.requires.matched c.requires.fair c.loop-end.tree
+          c.loop-end.end
+          (c.loop-end.step + 1)
+          c.loop-end.invariant
+          c.join.new.tree
+          c.join.ensures
+          c.loop-end-test.true
+          c.relax.new.tree
+          c.relax.ensures
+          c.requires.root;
     }
 
 pub loop-end-preserved : goal.loop-end-preserved
 loop-end-preserved c =
     grown_more c.args.costs.now c.args.prices.now c.args.matching.now c.args.root c.requires.matched c.requires.fair c.loop-end.tree
     c.loop-end.end
-    c.loop-end.step
+    (c.loop-end.step + 1)
     c.loop-end.invariant
     c.join.new.tree
     c.join.ensures
     c.loop-end-test.true
     c.relax.new.tree
     c.relax.ensures
-    c.requires.root
     c.nearest-end-in-loop-end.result
     c.nearest-end-in-loop-end.ensures
 
 pub loop-end-smaller : goal.loop-end-smaller
 loop-end-smaller c = omega (arith, (loop-end-preserved c).count, c.loop-end.invariant.count)
+
+pub returns : goal.returns
+returns c =
+    record {
+      end = c.loop-end.invariant.end;
+      free = c.loop-end-test.false;
+      end_inside = omega (arith, c.join-2.ensures.here);
+      rooted =
+          rooted_last c.args.costs.now c.args.prices.now c.args.matching.now c.args.root c.requires.matched c.requires.fair c.loop-end.tree
+          c.loop-end.end
+          (c.loop-end.step + 1)
+          c.loop-end.invariant
+          c.join-2.new.tree
+          c.join-2.ensures
+          c.loop-end-test.false;
+      held =
+          held_last c.args.costs.now c.args.prices.now c.args.matching.now c.args.root c.requires.matched c.requires.fair c.loop-end.tree
+          c.loop-end.end
+          (c.loop-end.step + 1)
+          c.loop-end.invariant
+          c.join-2.new.tree
+          c.join-2.ensures
+          c.loop-end-test.false;
+    }

@@ -1,9 +1,9 @@
-use Rattle.std.proofs.Common.{◌≡◌, ◌+◌, ◌-◌, sym, ap, subst, arith}
+use Rattle.std.proofs.Common.{◌≡◌, ◌+◌, ◌-◌, slice_index_or, None, sym, ap, subst, arith}
 use Rattle.assignment_costs.specs.Costs.{cost_at}
-use Rattle.assignment_search.specs.Search.{val, Relaxing}
-use Rattle.assignment_search.proofs.Relaxing.{relaxing_skip, relaxing_offer}
+use Rattle.assignment_search.specs.Search.{val, count_of, rank_of, Relaxing}
+use Rattle.assignment_search.proofs.Relaxing.{none_outside, some_inside, relaxing_skip, relaxing_offer}
 use Rattle.assignment_search.proofs.search.relax.Goals as goal
-use Rattle.assignment_search.proofs.search.relax.Goals.{then-tree-y-eq0, else-tree-y-eq0}
+use Rattle.assignment_search.proofs.search.relax.Goals.{then-is_none, else-is_none}
 
 pub loop-y-preserved : goal.loop-y-preserved
 loop-y-preserved c =
@@ -11,17 +11,17 @@ loop-y-preserved c =
     let costs = c.args.costs.now in
     let prices = c.args.prices.now in
     let x = c.args.role in
-    let same : val c.loop-y.tree.rank k ≡ val c.args.tree.now.rank k = ap (λ r. val r k) c.loop-y.invariant.rank in
-    elim c.if-tree-y-eq0.branch [
-      | then-tree-y-eq0 w ↦
+    let same : rank_of c.loop-y.tree k ≡ rank_of c.args.tree.now k = ap (λ r. count_of (slice_index_or r k None)) c.loop-y.invariant.joined in
+    elim c.if-is_none.branch [
+      | then-is_none w ↦
           subst (λ s. Relaxing costs prices x c.args.base c.args.tree.now s (k + 1)) (sym w.tree-is)
           (relaxing_offer costs prices x c.args.base c.args.tree.now c.loop-y.tree k c.loop-y.invariant
           (c.args.base + cost_at costs x k + val prices.discounts k - val prices.roles x)
           w.offer.new.tree
           w.offer.ensures
-          (omega (arith, same, w.if-tree-y-eq0.true))
+          (omega (arith, same, none_outside (slice_index_or c.loop-y.tree.joined k None) c.is_none.result c.is_none.ensures w.if-is_none.true))
           (omega (arith, c.requires.feasible k c.loop-y-test.true)))
-      | else-tree-y-eq0 w ↦
+      | else-is_none w ↦
           subst (λ s. Relaxing costs prices x c.args.base c.args.tree.now s (k + 1)) (sym w.tree-is)
-          (relaxing_skip costs prices x c.args.base c.args.tree.now c.loop-y.tree k c.loop-y.invariant (omega (arith, same, w.if-tree-y-eq0.false)))
+          (relaxing_skip costs prices x c.args.base c.args.tree.now c.loop-y.tree k c.loop-y.invariant (omega (arith, same, some_inside (slice_index_or c.loop-y.tree.joined k None) c.is_none.result c.is_none.ensures w.if-is_none.false)))
     ]
