@@ -115,6 +115,16 @@ module _ (c : Costs) (p : Prices) (m : Matching) (root : ℕ) (known : Matched c
       pub held_last : (y : ℕ) → y < n → 0 < rank_of s y → (y ≡ e) ⊎ (val m.owner y < 16)
       held_last y l h = elim (was y h) [ inl q ↦ inl q | inr i ↦ inr (g.held y l i) ]
 
+      pub near_last : (y : ℕ) → 0 < rank_of s y → val s.distance y ≤ val s.distance e
+      near_last y h =
+          elim (cases_lt y n) [
+            | inl l ↦ rooted_last.inside y l h
+            | inr l ↦ absurd (omega (arith, h, j.others y (λ q. omega (arith, g.end)), g.beyond y l))
+          ]
+
+      pub far_last : root < n → val s.distance e ≤ 2 ^ 45
+      far_last l = omega (arith, joined_distance e, g.rooted.short_root e g.end, c.capped (root * 16 + e), fair.low_boards e g.end)
+
     module _ (h : val m.owner e < 16) (r : Tree) (w : Relaxed c p (val m.owner e) (val s.distance e) s r) where
       abbrev x₀ : ℕ
       x₀ = val m.owner e
@@ -277,6 +287,7 @@ module _ (c : Costs) (p : Prices) (m : Matching) (root : ℕ) (known : Matched c
             ranks = ranks_more;
             held = held_more;
             count = count_more;
+            beyond = λ y l. same_rank y ∙ j.others y (λ q. omega (arith, g.end)) ∙ g.beyond y l;
           }
 
 -- the tree of the root alone
@@ -305,4 +316,5 @@ grown_first c p m root t a e near =
       ranks = λ y l. omega (arith, a.rank y);
       held = λ y l i. absurd (omega (arith, i, a.rank y));
       count = omega (arith, ones t c.boards a.rank);
+      beyond = λ y l. a.rank y;
     }

@@ -62,6 +62,7 @@ pub record Grown (c : Costs) (p : Prices) (m : Matching) (root : ℕ) (t : Tree)
   pub ranks : (y : ℕ) → y < c.boards → rank_of t y < step
   pub held : (y : ℕ) → y < c.boards → 0 < rank_of t y → val m.owner y < 16
   pub count : unused t c.boards + step ≡ c.boards + 1
+  pub beyond : (y : ℕ) → c.boards ≤ y → rank_of t y ≡ 0
 
 -- board b has joined the tree at a step
 pub record Joined (t : Tree) (b step : ℕ) (s : Tree) : Type 0 where

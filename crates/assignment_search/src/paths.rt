@@ -5,70 +5,98 @@ ghost use Rattle.assignment_search.specs.Search.{val, rank_of};
 ghost use Rattle.assignment_search.specs.Trees.{Matched};
 
 use crate::tree::{Matching, Prices, Tree};
+use assignment_costs::Costs;
 
-// How much nearer than `far` a board of the tree is.
-fn gap(tree: &Tree, far: u64, board: usize) -> u64
-    requires board { board < 16 }
-    requires near { 0 < rank_of tree.now board → val tree.now.distance board ≤ far }
-    ensures { result ≡ gap_of tree.now far board }
-{
-    if tree.joined[board].is_none() {
-        0
-    } else {
-        far - tree.distance[board]
+// The tree of a shortest path, and the board at the path's end. No board of the tree is farther.
+#[derive(Clone, Copy)]
+pub(crate) struct Path {
+    pub(crate) tree: Tree,
+    pub(crate) end: usize,
+    ghost end_most: { end < 16 },
+    ghost far_most: { val tree.distance end ≤ 2 ^ 45 },
+    ghost near: { (y : ℕ) → 0 < rank_of tree y → val tree.distance y ≤ val tree.distance end },
+}
+
+impl Path {
+    // How long the path is.
+    fn far(&self) -> u64
+        ensures { result ≡ val self.now.tree.distance self.now.end }
+    {
+        self.tree.distance[self.end]
     }
-}
 
-// Raises the prices of the tree's roles and the discounts of its boards by their gaps, and the root's by all of `far`.
-pub(crate) fn settle(
-    boards: usize,
-    prices: &mut Prices,
-    matching: &Matching,
-    root: usize,
-    tree: &Tree,
-    far: u64,
-)
-    requires most { boards ≤ 16 }
-    requires root { root < boards }
-    requires far { far ≤ 2 ^ 45 }
-    requires named { (x : ℕ) → x < boards → val matching.now.naming x < 16 → val matching.now.naming x < boards }
-    requires near { (y : ℕ) → y < boards → 0 < rank_of tree.now y → val tree.now.distance y ≤ far }
-    requires roles { (x : ℕ) → x < boards → val prices.old.roles x ≤ 2 ^ 44 }
-    requires discounts { (y : ℕ) → y < boards → val prices.old.discounts y ≤ 2 ^ 44 }
-    ensures { Settled boards matching.now root tree.now far prices.old prices.new }
-{
-    raise_roles(boards, prices, matching, tree, far);
-    raise_boards(boards, prices, tree, far);
-    prices.roles[root] += far;
-}
-
-fn raise_roles(boards: usize, prices: &mut Prices, matching: &Matching, tree: &Tree, far: u64)
-    requires most { boards ≤ 16 }
-    requires far { far ≤ 2 ^ 45 }
-    requires named { (x : ℕ) → x < boards → val matching.now.naming x < 16 → val matching.now.naming x < boards }
-    requires near { (y : ℕ) → y < boards → 0 < rank_of tree.now y → val tree.now.distance y ≤ far }
-    requires roles { (x : ℕ) → x < boards → val prices.old.roles x ≤ 2 ^ 44 }
-    ensures raised { (x : ℕ) → x < boards → val prices.new.roles x ≡ val prices.old.roles x + rise_of matching.now tree.now far x }
-    ensures same { prices.new.discounts ≡ prices.old.discounts }
-{
-    for x in 0..boards {
-        let board = matching.naming[x];
-        if board < 16 {
-            prices.roles[x] += gap(tree, far, board);
+    // How much nearer than the end a board of the tree is.
+    fn gap(&self, board: usize) -> u64
+        requires { board < 16 }
+        ensures { result ≡ gap_of self.now.tree (val self.now.tree.distance self.now.end) board }
+    {
+        if self.tree.joined[board].is_none() {
+            0
+        } else {
+            self.far() - self.tree.distance[board]
         }
     }
-}
 
-fn raise_boards(boards: usize, prices: &mut Prices, tree: &Tree, far: u64)
-    requires most { boards ≤ 16 }
-    requires far { far ≤ 2 ^ 45 }
-    requires near { (y : ℕ) → y < boards → 0 < rank_of tree.now y → val tree.now.distance y ≤ far }
-    requires discounts { (y : ℕ) → y < boards → val prices.old.discounts y ≤ 2 ^ 44 }
-    ensures raised { (y : ℕ) → y < boards → val prices.new.discounts y ≡ val prices.old.discounts y + gap_of tree.now far y }
-    ensures same { prices.new.roles ≡ prices.old.roles }
-{
-    for y in 0..boards {
-        prices.discounts[y] += gap(tree, far, y);
+    // Raises the prices of the tree's roles and the discounts of its boards by their gaps, and the root's by
+    // all of the path.
+    pub(crate) fn settle(
+        &self,
+        costs: &Costs,
+        prices: &mut Prices,
+        matching: &Matching,
+        root: usize,
+    )
+        requires root { root < costs.now.boards }
+        requires named { (x : ℕ) → x < costs.now.boards → val matching.now.naming x < 16 → val matching.now.naming x < costs.now.boards }
+        requires roles { (x : ℕ) → x < costs.now.boards → val prices.old.roles x ≤ 2 ^ 44 }
+        requires discounts { (y : ℕ) → y < costs.now.boards → val prices.old.discounts y ≤ 2 ^ 44 }
+        ensures { Settled costs.now.boards matching.now root self.now.tree (val self.now.tree.distance self.now.end) prices.old prices.new }
+    {
+        self.raise_roles(costs, prices, matching);
+        self.raise_boards(costs, prices);
+        prices.roles[root] += self.far();
+    }
+
+    fn raise_roles(&self, costs: &Costs, prices: &mut Prices, matching: &Matching)
+        requires named { (x : ℕ) → x < costs.now.boards → val matching.now.naming x < 16 → val matching.now.naming x < costs.now.boards }
+        requires roles { (x : ℕ) → x < costs.now.boards → val prices.old.roles x ≤ 2 ^ 44 }
+        ensures raised { (x : ℕ) → x < costs.now.boards → val prices.new.roles x ≡ val prices.old.roles x + rise_of matching.now self.now.tree (val self.now.tree.distance self.now.end) x }
+        ensures same { prices.new.discounts ≡ prices.old.discounts }
+    {
+        for x in 0..costs.boards {
+            let board = matching.naming[x];
+            if board < 16 {
+                prices.roles[x] += self.gap(board);
+            }
+        }
+    }
+
+    fn raise_boards(&self, costs: &Costs, prices: &mut Prices)
+        requires discounts { (y : ℕ) → y < costs.now.boards → val prices.old.discounts y ≤ 2 ^ 44 }
+        ensures raised { (y : ℕ) → y < costs.now.boards → val prices.new.discounts y ≡ val prices.old.discounts y + gap_of self.now.tree (val self.now.tree.distance self.now.end) y }
+        ensures same { prices.new.roles ≡ prices.old.roles }
+    {
+        for y in 0..costs.boards {
+            prices.discounts[y] += self.gap(y);
+        }
+    }
+
+    // Gives each board of the path from its end to `root` to the role from which it was reached.
+    pub(crate) fn switch(&self, costs: &Costs, matching: &mut Matching, root: usize)
+        requires root { root < costs.now.boards }
+        requires matched { Matched costs.now.boards root matching.old 16 }
+        requires route { Route costs.now.boards matching.old root self.now.tree self.now.end }
+        ensures { Switched costs.now.boards matching.old root self.now.tree matching.new }
+    {
+        let mut board = self.end;
+        let mut role = self.tree.way[board];
+        while role != root {
+            let next = matching.naming[role];
+            give(matching, role, board);
+            board = next;
+            role = self.tree.way[board];
+        }
+        give(matching, role, board);
     }
 }
 
@@ -80,23 +108,4 @@ fn give(matching: &mut Matching, role: usize, board: usize)
 {
     matching.owner[board] = role;
     matching.naming[role] = board;
-}
-
-// Gives each board of the path from `end` to `root` to the role from which it was reached.
-pub(crate) fn switch(boards: usize, matching: &mut Matching, root: usize, tree: &Tree, end: usize)
-    requires most { boards ≤ 16 }
-    requires root { root < boards }
-    requires matched { Matched boards root matching.old 16 }
-    requires route { Route boards matching.old root tree.now end }
-    ensures { Switched boards matching.old root tree.now matching.new }
-{
-    let mut board = end;
-    let mut role = tree.way[board];
-    while role != root {
-        let next = matching.naming[role];
-        give(matching, role, board);
-        board = next;
-        role = tree.way[board];
-    }
-    give(matching, role, board);
 }

@@ -4,7 +4,8 @@ ghost use Rattle.assignment_costs.specs.Costs.{cost_at};
 ghost use Rattle.assignment_search.specs.Search.{val, Offered, Relaxed, IsPartial, Nearest, Planted};
 ghost use Rattle.assignment_search.specs.Trees.{Matched, Fair, Found, Joined};
 
-use crate::tree::{Matching, Path, Prices, Tree};
+use crate::paths::Path;
+use crate::tree::{Matching, Prices, Tree};
 use assignment_costs::Costs;
 
 // The tree of `root` alone: each board is as far as the root's own pair with it.

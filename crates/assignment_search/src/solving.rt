@@ -2,7 +2,6 @@
 ghost use Rattle.std.specs.Prelude.{◌≡◌, ℕ, ◌+◌, ◌^◌, ◌<◌, ◌≤◌};
 ghost use Rattle.assignment_search.specs.Trees.{Matched, Fair, Held, Full};
 
-use crate::paths::{settle, switch};
 use crate::search::grow;
 use crate::tree::{Match, Matching, Prices};
 use assignment_costs::Costs;
@@ -36,7 +35,6 @@ fn insert(costs: &Costs, prices: &mut Prices, matching: &mut Matching, root: usi
     ensures held { Held costs.now prices.new matching.new 16 }
 {
     let path = grow(costs, prices, matching, root);
-    let far = path.tree.distance[path.end];
-    settle(costs.boards, prices, matching, root, &path.tree, far);
-    switch(costs.boards, matching, root, &path.tree, path.end);
+    path.settle(costs, prices, matching, root);
+    path.switch(costs, matching, root);
 }

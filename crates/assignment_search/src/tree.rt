@@ -24,13 +24,6 @@ pub(crate) struct Tree {
     pub(crate) joined: [Option<usize>; 16],
 }
 
-// A tree, and the board at the end of its path.
-#[derive(Clone, Copy)]
-pub(crate) struct Path {
-    pub(crate) tree: Tree,
-    pub(crate) end: usize,
-}
-
 // Every role has a board, at prices that prove that no naming costs less.
 #[derive(Clone, Copy)]
 pub struct Match {

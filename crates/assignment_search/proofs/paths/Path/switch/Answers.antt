@@ -1,14 +1,14 @@
 use Rattle.std.proofs.Common.{refl}
 use Rattle.assignment_search.proofs.Flipping.{switching_first, switching_step, switched_end}
-use Rattle.assignment_search.proofs.paths.switch.Goals as goal
+use Rattle.assignment_search.proofs.paths.Path.switch.Goals as goal
 
 pub loop-role-init : goal.loop-role-init
 loop-role-init c =
-    (switching_first c.args.boards c.args.root c.requires.most c.args.matching.now c.args.tree.now c.args.end c.requires.matched c.requires.route, refl)
+    (switching_first c.args.costs.now.boards c.args.root c.args.costs.now.most c.args.matching.now c.args.self.now.tree c.args.self.now.end c.requires.matched c.requires.route, refl)
 
 pub loop-role-preserved : goal.loop-role-preserved
 loop-role-preserved c = (
-  (switching_step c.args.boards c.args.root c.requires.most c.args.matching.now c.args.tree.now c.args.end c.requires.matched c.requires.route
+  (switching_step c.args.costs.now.boards c.args.root c.args.costs.now.most c.args.matching.now c.args.self.now.tree c.args.self.now.end c.requires.matched c.requires.route
       c.loop-role.matching
       c.loop-role.board
       c.loop-role.role
@@ -23,7 +23,7 @@ loop-role-preserved c = (
 
 pub loop-role-smaller : goal.loop-role-smaller
 loop-role-smaller c =
-    (switching_step c.args.boards c.args.root c.requires.most c.args.matching.now c.args.tree.now c.args.end c.requires.matched c.requires.route
+    (switching_step c.args.costs.now.boards c.args.root c.args.costs.now.most c.args.matching.now c.args.self.now.tree c.args.self.now.end c.requires.matched c.requires.route
     c.loop-role.matching
     c.loop-role.board
     c.loop-role.role
@@ -36,7 +36,7 @@ loop-role-smaller c =
 
 pub returns : goal.returns
 returns c =
-    switched_end c.args.boards c.args.root c.requires.most c.args.matching.now c.args.tree.now c.args.end c.requires.matched c.requires.route
+    switched_end c.args.costs.now.boards c.args.root c.args.costs.now.most c.args.matching.now c.args.self.now.tree c.args.self.now.end c.requires.matched c.requires.route
     c.requires.root
     c.loop-role.matching
     c.loop-role.board
