@@ -1,11 +1,14 @@
 -- One step of a cursor over a drawing.
-use Rattle.std.proofs.Common.{◌≡◌, ℕ, ◌+◌, ◌-◌, ◌*◌, ◌<◌, ◌≤◌, min, false, cond, ltb, List, [], ◌∷◌, ◌++◌, Some, None, Option, sym, ap, ◌∙◌, subst, inl, inr, append_assoc, arith}
+use Rattle.std.proofs.Common.{◌≡◌, ℕ, ◌+◌, ◌-◌, ◌*◌, ◌/◌, ◌%◌, ◌<◌, ◌≤◌, min, true, false, cond, ◌&&◌, ltb, List, [], ◌∷◌, ◌++◌, Some, None, Option, sym, ap, ◌∙◌, subst, inl, inr, append_assoc, arith}
 use native.Mathlib.Nat.{sub-zero}
-use Rattle.std.proofs.lemmas.Bool.{cases_Bool, cases_lt, cond-true, cond-false, lt-ltb, le-ltb, ltb-true, ltb-false}
+use Rattle.std.proofs.lemmas.Bool.{and_parts, cases_Bool, cases_lt, cond-true, cond-false, lt-ltb, le-ltb, ltb-true, ltb-false}
+use Rattle.std.proofs.lemmas.Grind.{div_ceil_times}
+use Rattle.std.proofs.lemmas.Nat.{div-mul-add}
+use Rattle.std.specs.Int.{div_ceil}
 use Rattle.std.specs.List.{AllByRecursion}
 use Rattle.faults.specs.declared.cause.Cause.{Cause}
 use Rattle.faults.specs.declared.cause.Cause.TheVariants.{Beyond}
-use Rattle.drawings.proofs.Drawings.{drawable, joined, count, few}
+use Rattle.drawings.proofs.Drawings.{joined, count, few}
 use Rattle.drawings.specs.Asking.{IsCell, cell_refusal}
 use Rattle.drawings.specs.Drawings.{overlay_of, cells, cell_top, cell_bottom, cell_left, cell_right, role_of, sender_of}
 use Rattle.drawing_parts.specs.declared.cell.Cell.{Cell}
@@ -15,22 +18,31 @@ use Rattle.overlays.specs.Overlays.{Joined, Holds}
 use Rattle.runs.proofs.Once.{all_append}
 use Rattle.runs.specs.Runs.{Run, pieces, piece, runs_of, span}
 use Rattle.cursors.specs.Cursors.{admits, bounded, chosen, runs_from}
-use Rattle.cursors.specs.Steps.{advance, left_at, passes, run_at, run_of}
+use Rattle.cursors.specs.Steps.{On, advance, left_at, passes, run_at, run_of}
 use Rattle.cursors.specs.declared.cursor.Cursor.{Cursor}
 use Rattle.cursors.specs.declared.cursor.Wanted.{Wanted}
 use Rattle.cursors.proofs.Leaving.{enter, from_past, next_cell, next_piece, next_row, skip, skipped_in, skipped_none}
+
+-- a row is cut into its width over the pieces' length, rounded up
+pub ceil_is : (w m : ℕ) → 1 ≤ m → div_ceil w m ≡ pieces w m
+ceil_is w m h =
+    let t = div_ceil_times w m h in
+    let q = w / m + min 1 (w % m) in
+    let r = w + (m - 1) - q * m in
+    let e : q * m + r ≡ w + (m - 1) = omega (arith, t) in
+    sym (div-mul-add q m r (omega (arith, t, h))) ∙ ap (λ x. x / m) e
 
 no_cause : (v : Cause) → ◌≡◌ {A = Option Cause} (Some v) None → ⊥
 no_cause v e = let z : ◌≡◌ {A = ℕ} 0 1 = cc in omega arith
 
 module _ (d : Drawing) where
   over_joined : Joined d.target.boards d.target.rows d.target.columns (overlay_of d)
-  over_joined = joined d.operation d.target d.source d.row_lines d.column_lines (drawable d)
+  over_joined = joined d.operation d.target d.source d.row_lines d.column_lines d.drawable
 
   pub cells_few : cells d ≤ 3969
   cells_few =
-      let e = count d.operation d.target d.source d.row_lines d.column_lines (drawable d) in
-      let f = few d.operation d.target d.source d.row_lines d.column_lines (drawable d) in
+      let e = count d.operation d.target d.source d.row_lines d.column_lines d.drawable in
+      let f = few d.operation d.target d.source d.row_lines d.column_lines d.drawable in
       subst (λ n. n ≤ 3969) (sym e) f
 
   -- a cell lies in the matrix
@@ -138,6 +150,14 @@ no_cell d k v e =
       | inl t ↦ absurd (no_cause v (sym e ∙ cond-true (ltb k (cells d)) None (Some (Beyond 0)) t))
       | inr f ↦ ltb-false k (cells d) f
     ]
+
+-- what stands in a cell stands on a piece of it
+pub stands_on : (d : Drawing) (m : ℕ) (c : Cursor) (x : Cell) → (1 ≤ m) × (m ≤ 60) → IsCell d c.cell x → c.cell < cells d
+    → true ≡ (ltb c.row x.height && ltb c.piece (pieces x.width m)) → On x m c
+stands_on d m c x most is one e =
+    let on = and_parts (ltb c.row x.height) (ltb c.piece (pieces x.width m)) (sym e) in
+    let size = cell_size d c.cell x one is in
+    record { most = most; rows = size.0; columns = size.1; row = ltb-true _ _ on.0; piece = ltb-true _ _ on.1; cell = omega (arith, one, cells_few d) }
 
 -- the most elements of a run
 pub bounded_is : (longest : ℕ) → (1 ≤ bounded longest) × (bounded longest ≤ 60)

@@ -1,12 +1,12 @@
 -- What a step of a cursor finds. Assumes nothing.
---     left_at d m i c       the runs of sender i from the cursor c on
---     Whole c               from c on, all runs of each sender are left
---     run_of v              the run that v tells of
---     passes d w x          whether run x is wanted
+--     left_at d m i c      the runs of sender i from the cursor c on
+--     Whole c              from c on, all runs of each sender are left
+--     run_of v             the run that v tells of
+--     passes d w x         whether run x is wanted
 --     NoneWanted           no run from the cursor on is wanted
---     run_at, advance       the run at a cursor in a cell, and the cursor right behind it
---     On                    the cursor stands on a piece of the cell
---     Found                 v is the first wanted run from the cursor on, and the new cursor stands right behind it
+--     run_at, advance      the run at a cursor in a cell, and the cursor right behind it
+--     On                   the cursor stands on a piece of the cell
+--     Found                v is the first wanted run from the cursor on, and the new cursor stands right behind it
 use Rattle.std.specs.Prelude.{◌≡◌, ℕ, ◌+◌, ◌-◌, ◌*◌, ◌<◌, ◌≤◌, min, Bool, true, false, cond, List, ◌∷◌, ◌++◌, nat_lt}
 use Rattle.std.specs.List.{AllByRecursion}
 use Rattle.cursors.specs.Cursors.{admits, runs_from}

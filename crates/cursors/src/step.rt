@@ -38,58 +38,73 @@ impl Wanted {
 
 // How many pieces a row of `width` elements is cut into.
 fn pieces_of(width: usize, most: usize) -> usize
-    requires { (width ≤ 1024) × (1 ≤ most) × (most ≤ 60) }
+    requires { 1 ≤ most }
     ensures { result ≡ pieces width most }
 {
-    (width + (most - 1)) / most
+    width.div_ceil(most)
 }
 
-// Whether the cell has the piece that the cursor names.
-fn stands(cell: &Cell, most: usize, at: Cursor) -> bool
-    requires { (cell.now.width ≤ 1024) × (1 ≤ most) × (most ≤ 60) }
-    ensures { result ≡ (nat_lt at.row cell.now.height && nat_lt at.piece (pieces cell.now.width most)) }
-{
-    at.row < cell.height && at.piece < pieces_of(cell.width, most)
-}
-
-// The run at a cursor that stands in a cell, and the cursor right behind it.
-fn pick(cell: &Cell, most: usize, at: Cursor) -> (Run, Cursor)
-    requires { On cell.now most at }
-    ensures run { result.0 ≡ run_at cell.now most at }
-    ensures next { result.1 ≡ advance cell.now most at }
-{
-    let before = at.piece * most;
-    let run = Run {
-        cell: at.cell,
-        row: cell.top + at.row,
-        column: cell.left + before,
-        count: most.min(cell.width - before),
-        role: cell.role,
-    };
-    let next = if at.piece + 1 < pieces_of(cell.width, most) {
+impl Cursor {
+    // The beginning of the next cell.
+    fn next_cell(self) -> Cursor
+        requires { self.cell < 3969 }
+        ensures { result ≡ record { cell = self.cell + 1; row = 0; piece = 0 } }
+    {
         Cursor {
-            cell: at.cell,
-            row: at.row,
-            piece: at.piece + 1,
-        }
-    } else if at.row + 1 < cell.height {
-        Cursor {
-            cell: at.cell,
-            row: at.row + 1,
-            piece: 0,
-        }
-    } else {
-        Cursor {
-            cell: at.cell + 1,
+            cell: self.cell + 1,
             row: 0,
             piece: 0,
         }
-    };
-    (run, next)
+    }
+
+    // Whether the cell has the piece that the cursor names.
+    fn stands(self, cell: &Cell, most: usize) -> bool
+        requires { 1 ≤ most }
+        ensures { result ≡ (nat_lt self.row cell.now.height && nat_lt self.piece (pieces cell.now.width most)) }
+    {
+        self.row < cell.height && self.piece < pieces_of(cell.width, most)
+    }
+
+    // The run at a cursor that stands in the cell.
+    fn run_at(self, cell: &Cell, most: usize) -> Run
+        requires { On cell.now most self }
+        ensures { result ≡ run_at cell.now most self }
+    {
+        let before = self.piece * most;
+        Run {
+            cell: self.cell,
+            row: cell.top + self.row,
+            column: cell.left + before,
+            count: most.min(cell.width - before),
+            role: cell.role,
+        }
+    }
+
+    // The cursor right behind that run.
+    fn advance(self, cell: &Cell, most: usize) -> Cursor
+        requires { On cell.now most self }
+        ensures { result ≡ advance cell.now most self }
+    {
+        if self.piece + 1 < pieces_of(cell.width, most) {
+            Cursor {
+                piece: self.piece + 1,
+                ..self
+            }
+        } else if self.row + 1 < cell.height {
+            Cursor {
+                row: self.row + 1,
+                piece: 0,
+                ..self
+            }
+        } else {
+            self.next_cell()
+        }
+    }
 }
 
 // The first run of the sender from the cursor on that is wanted, and the cursor right behind it; or `None`
 // where no run that is left is wanted. A run has at most `longest` elements.
+// The parameters stay apart: who keeps a cursor keeps none of the others, and names them at each step.
 pub fn next(
     drawing: &Drawing,
     longest: usize,
@@ -99,17 +114,13 @@ pub fn next(
 ) -> Option<(Run, Cursor)>
     ensures { MatchOption result (NoneWanted drawing.now (bounded longest) sender from wanted) (λ v. Found drawing.now (bounded longest) sender from wanted v.0 v.1) }
 {
-    let most = longest.max(1).min(LONGEST);
+    let most = longest.clamp(1, LONGEST);
     let mut at = from;
     while let Ok(cell) = drawing.cell(at.cell) {
-        if stands(&cell, most, at) && cell.sender == sender && wanted.admits(cell.role) {
-            return Some(pick(&cell, most, at));
+        if at.stands(&cell, most) && cell.sender == sender && wanted.admits(cell.role) {
+            return Some((at.run_at(&cell, most), at.advance(&cell, most)));
         }
-        at = Cursor {
-            cell: at.cell + 1,
-            row: 0,
-            piece: 0,
-        };
+        at = at.next_cell();
     }
     None
 }

@@ -20,10 +20,7 @@ fn run(
     from: Cursor,
     wanted: Wanted,
 ) -> Option<Run> {
-    match next(drawing, longest, sender, from, wanted) {
-        Some((found, _)) => Some(found),
-        None => None,
-    }
+    next(drawing, longest, sender, from, wanted).map(|(found, _)| found)
 }
 
 // The cursor behind the next run, or the same one where there is none.
@@ -34,10 +31,7 @@ fn behind(
     from: Cursor,
     wanted: Wanted,
 ) -> Cursor {
-    match next(drawing, longest, sender, from, wanted) {
-        Some((_, cursor)) => cursor,
-        None => from,
-    }
+    next(drawing, longest, sender, from, wanted).map_or(from, |(_, cursor)| cursor)
 }
 
 #[test]

@@ -15,8 +15,8 @@ const SIDE: u16 = 1024;
 fn splits(heap: Global, shift: u16) -> Result<Vec<u16>, AllocError> {
     let mut list = Vec::new(heap);
     list.push(0)?;
-    for k in 0..31u16 {
-        list.push(32 * (k + 1) - shift % 32)?;
+    for k in 1..32u16 {
+        list.push(32 * k - shift % 32)?;
     }
     list.push(SIDE)?;
     Ok(list)
@@ -24,20 +24,15 @@ fn splits(heap: Global, shift: u16) -> Result<Vec<u16>, AllocError> {
 
 // An owner of 16 for each of 1,024 blocks.
 fn owners(heap: Global, step: usize) -> Result<Vec<u8>, AllocError> {
-    let mut list = Vec::new(heap);
-    for b in 0..1024usize {
-        list.push((b.wrapping_mul(step) % 16) as u8)?;
-    }
-    Ok(list)
+    (0..1024usize)
+        .map(|b| (b.wrapping_mul(step) % 16) as u8)
+        .collect(heap)
 }
 
 fn layout(rt: &HostRuntime, shift: u16, step: usize) -> anyhow::Result<Layout> {
     let cuts = splits(rt.alloc(), shift)?;
     let table = owners(rt.alloc(), step)?;
-    match Layout::new('R', 16, 1024, 1024, &cuts, &cuts, &table) {
-        Ok(made) => Ok(made),
-        Err(fault) => Err(told(rt, fault)),
-    }
+    Layout::new('R', 16, 1024, 1024, &cuts, &cuts, &table).map_err(|fault| told(rt, fault))
 }
 
 // Prints a fault, and makes an error of it.
@@ -58,20 +53,14 @@ fn draw(target: &Layout, source: &Layout, rounds: u32) -> Result<u64, Fault> {
     Ok(sum)
 }
 
-fn run(rt: &HostRuntime) -> anyhow::Result<()> {
-    let rounds = match env::args(rt)?.nth(1) {
+fn main(rt: HostRuntime) -> anyhow::Result<()> {
+    let rounds = match env::args(&rt)?.nth(1) {
         Some(word) => word.as_str().parse::<u32>()?,
         None => 16,
     };
-    let target = layout(rt, 0, 7)?;
-    let source = layout(rt, 16, 5)?;
-    match draw(&target, &source, rounds) {
-        Ok(sum) => println!(rt; "{rounds} drawings, {sum} elements")?,
-        Err(fault) => return Err(told(rt, fault)),
-    }
+    let target = layout(&rt, 0, 7)?;
+    let source = layout(&rt, 16, 5)?;
+    let sum = draw(&target, &source, rounds).map_err(|fault| told(&rt, fault))?;
+    println!(rt; "{rounds} drawings, {sum} elements")?;
     Ok(())
-}
-
-fn main(rt: HostRuntime) -> anyhow::Result<()> {
-    run(&rt)
 }

@@ -31,10 +31,7 @@ fn turned_source() -> Result<Layout, Fault> {
 
 // The cause for which a drawing is refused, if it is.
 fn cause_of(made: Result<Drawing, Fault>) -> Option<Cause> {
-    match made {
-        Ok(_) => None,
-        Err(fault) => Some(fault.cause),
-    }
+    made.err().map(|fault| fault.cause)
 }
 
 #[test]
@@ -144,27 +141,15 @@ fn questions_beyond_the_last_are_refused(rt: HostRuntime) -> Result<(), Fail> {
     let drawing = worked()?;
     assert_eq!(rt;
         drawing.cover(4),
-        Err(Fault {
-            layer: Layer::Drawings,
-            call: Call::Cover,
-            cause: Cause::Beyond { index: 0 },
-        })
+        Err(Fault::new(Layer::Drawings, Call::Cover, Cause::Beyond { index: 0 }))
     );
     assert_eq!(rt;
         drawing.package_elements(3, 2),
-        Err(Fault {
-            layer: Layer::Drawings,
-            call: Call::Ask,
-            cause: Cause::Board { number: 3 },
-        })
+        Err(Fault::new(Layer::Drawings, Call::Ask, Cause::Board { number: 3 }))
     );
     assert_eq!(rt;
         drawing.package_elements(1, 2),
-        Err(Fault {
-            layer: Layer::Drawings,
-            call: Call::Ask,
-            cause: Cause::Board { number: 2 },
-        })
+        Err(Fault::new(Layer::Drawings, Call::Ask, Cause::Board { number: 2 }))
     );
     Ok(())
 }

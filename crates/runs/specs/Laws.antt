@@ -5,8 +5,8 @@
 --     Once             each element of the target is in exactly one run of the board that it comes from, and in none of
 --                      another's: so no two runs overlap, and all together have every element
 --     Inside o m i x   x is in a cell of sender i and has 1 to m elements, all in one row of that cell
---     InCells         each run of a sender is so inside; its cell lies in one block of the target and in one of the source
---     CutRows         a row of 61 elements is cut into 60 and 1 as words, and into 30, 30 and 1 as pairs
+--     InCells          each run of a sender is so inside; its cell lies in one block of the target and in one of the source
+--     CutRows          a row of 61 elements is cut into 60 and 1 as words, and into 30, 30 and 1 as pairs
 use Rattle.std.specs.Prelude.{◌≡◌, ℕ, ◌+◌, ◌<◌, ◌≤◌, Bool, cond, ◌&&◌, List, [], ◌∷◌, map, ◌==◌, nat_le, nat_lt}
 use Rattle.std.specs.List.{AllByRecursion}
 use Rattle.overlays.specs.Laws.{Lies}

@@ -5,39 +5,27 @@ use Rattle.std.specs.List.{AllByRecursion}
 use Rattle.cursors.specs.Cursors.{admits, bounded}
 use Rattle.cursors.specs.Steps.{Found, left_at, passes, run_at, advance}
 use Rattle.runs.specs.Runs.{Run, pieces}
-use Rattle.cursors.proofs.Stepping.{bounded_is, cell_size, cells_few, is_cell, no_cell, none_left, passed_on, skip_absent, skip_unwanted, step}
+use Rattle.cursors.proofs.Stepping.{bounded_is, cells_few, is_cell, no_cell, none_left, stands_on, passed_on, skip_absent, skip_unwanted, step}
 use Rattle.cursors.proofs.step.next.Goals as goal
 use Rattle.cursors.proofs.step.next.Goals.{else-stands-via-then-stands+then-cell-sender+else-admits, else-stands-via-then-stands+else-cell-sender, else-stands-via-else-stands}
 
 pub loop-cell-init : goal.loop-cell-init
 loop-cell-init c = ([], refl, tt)
 
-pub stands-requires : goal.stands-requires
-stands-requires c =
-    let d = c.args.drawing.now in
+pub run_at-requires : goal.run_at-requires
+run_at-requires c =
     let asked = c.in-Ok.ensures.cases in
-    let size = cell_size d c.loop-cell.at.cell c.in-Ok.cell (is_cell d c.loop-cell.at.cell asked.0) asked.1 in
-    let most : c.min-most.result ≡ bounded c.args.longest = c.min-most.ensures ∙ ap (λ v. min v 60) c.max.ensures in
-    let limits = bounded_is c.args.longest in
-    (omega (arith, size.1), omega (arith, most, limits.0), omega (arith, most, limits.1))
+    stands_on c.args.drawing.now c.clamp-most.result c.loop-cell.at c.in-Ok.cell (omega arith, omega arith) asked.1 (is_cell c.args.drawing.now c.loop-cell.at.cell asked.0) c.if-stands.ensures
 
-pub pick-requires : goal.pick-requires
-pick-requires c =
-    let d = c.args.drawing.now in
+pub advance-requires : goal.advance-requires
+advance-requires c =
     let asked = c.in-Ok.ensures.cases in
-    let one = is_cell d c.loop-cell.at.cell asked.0 in
-    let size = cell_size d c.loop-cell.at.cell c.in-Ok.cell one asked.1 in
-    let most : c.min-most.result ≡ bounded c.args.longest = c.min-most.ensures ∙ ap (λ v. min v 60) c.max.ensures in
-    let limits = bounded_is c.args.longest in
-    let on = and_parts (ltb c.loop-cell.at.row c.in-Ok.cell.height) (ltb c.loop-cell.at.piece (pieces c.in-Ok.cell.width c.min-most.result)) (sym c.if-stands.ensures) in
-    record {
-      most = (omega (arith, most, limits.0), omega (arith, most, limits.1));
-      rows = size.0;
-      columns = size.1;
-      row = ltb-true _ _ on.0;
-      piece = ltb-true _ _ on.1;
-      cell = omega (arith, one, cells_few d);
-    }
+    stands_on c.args.drawing.now c.clamp-most.result c.loop-cell.at c.in-Ok.cell (omega arith, omega arith) asked.1 (is_cell c.args.drawing.now c.loop-cell.at.cell asked.0) c.if-stands.ensures
+
+pub next_cell-at-requires : goal.next_cell-at-requires
+next_cell-at-requires c =
+    let d = c.args.drawing.now in
+    omega (arith, is_cell d c.loop-cell.at.cell c.in-Ok.ensures.cases.0, cells_few d)
 
 pub returns-then-admits : goal.returns-then-admits
 returns-then-admits c =
@@ -46,28 +34,23 @@ returns-then-admits c =
     let x = c.in-Ok.cell in
     let m = bounded c.args.longest in
     let asked = c.in-Ok.ensures.cases in
-    let one = is_cell d c.loop-cell.at.cell asked.0 in
-    let most : c.min-most.result ≡ bounded c.args.longest = c.min-most.ensures ∙ ap (λ v. min v 60) c.max.ensures in
-    let on = and_parts (ltb c.loop-cell.at.row c.in-Ok.cell.height) (ltb c.loop-cell.at.piece (pieces c.in-Ok.cell.width c.min-most.result)) (sym c.if-stands.ensures) in
-    let there : c.loop-cell.at.piece < pieces c.in-Ok.cell.width (bounded c.args.longest) = subst (λ v. c.loop-cell.at.piece < pieces c.in-Ok.cell.width v) most (ltb-true _ _ on.1) in
-    let run : c.pick.result.0 ≡ run_at x m at = c.pick.ensures.run ∙ ap (λ v. run_at c.in-Ok.cell v c.loop-cell.at) most in
-    let behind : c.pick.result.1 ≡ advance x m at = c.pick.ensures.next ∙ ap (λ v. advance c.in-Ok.cell v c.loop-cell.at) most in
+    let one = is_cell d at.cell asked.0 in
+    let most : c.clamp-most.result ≡ m = omega (arith, c.clamp-most.ensures) in
+    let on = stands_on d c.clamp-most.result at x (omega arith, omega arith) asked.1 one c.if-stands.ensures in
+    let there : at.piece < pieces x.width m = subst (λ v. at.piece < pieces x.width v) most on.piece in
+    let run : c.run_at.result ≡ run_at x m at = c.run_at.ensures ∙ ap (λ v. run_at x v at) most in
+    let behind : c.advance.result ≡ advance x m at = c.advance.ensures ∙ ap (λ v. advance x v at) most in
     let found : Found d m c.args.sender c.args.from c.args.wanted (run_at x m at) (advance x m at) =
     record {
       skipped = c.loop-cell.invariant.0;
       split = c.loop-cell.invariant.1
-          ∙ ap (λ v. c.loop-cell.invariant.0 ++ v) (step d m c.args.sender (bounded_is c.args.longest).0 at x asked.1 one c.if-cell-sender.true (ltb-true _ _ on.0) there);
+          ∙ ap (λ v. c.loop-cell.invariant.0 ++ v) (step d m c.args.sender (bounded_is c.args.longest).0 at x asked.1 one c.if-cell-sender.true on.row there);
       unwanted = c.loop-cell.invariant.2;
       wanted = ap (admits c.args.wanted) (sym asked.1.role) ∙ sym c.if-admits.ensures;
       role = asked.1.role;
     } in
-    subst (λ v. Found d m c.args.sender c.args.from c.args.wanted v c.pick.result.1) (sym run)
+    subst (λ v. Found d m c.args.sender c.args.from c.args.wanted v c.advance.result) (sym run)
     (subst (λ v. Found d m c.args.sender c.args.from c.args.wanted (run_at x m at) v) (sym behind) found)
-
-pub overflow_add-at : goal.overflow_add-at
-overflow_add-at c =
-    let d = c.args.drawing.now in
-    omega (arith, is_cell d c.loop-cell.at.cell c.in-Ok.ensures.cases.0, cells_few d)
 
 pub loop-cell-preserved : goal.loop-cell-preserved
 loop-cell-preserved c =
@@ -78,7 +61,7 @@ loop-cell-preserved c =
     let asked = c.in-Ok.ensures.cases in
     let one = is_cell d c.loop-cell.at.cell asked.0 in
     let some = (bounded_is c.args.longest).0 in
-    let most : c.min-most.result ≡ bounded c.args.longest = c.min-most.ensures ∙ ap (λ v. min v 60) c.max.ensures in
+    let most : c.clamp-most.result ≡ bounded c.args.longest = omega (arith, c.clamp-most.ensures) in
     let skipped : (s : List Run) × (left_at d m i c.loop-cell.at ≡ s ++ left_at d m i (record { cell = c.loop-cell.at.cell + 1; row = 0; piece = 0 })) × AllByRecursion (λ v. passes d w v ≡ false) s =
     elim c.else-stands.branch [
       | else-stands-via-then-stands+then-cell-sender+else-admits v ↦ skip_unwanted d m i some c.loop-cell.at c.in-Ok.cell asked.1 one w (sym v.if-admits.ensures)
@@ -87,7 +70,8 @@ loop-cell-preserved c =
           skip_absent d m i some c.loop-cell.at c.in-Ok.cell asked.1 one w
           (λ s g h. both_ways _ (sym v.if-stands.ensures) (and_from _ _ (lt-ltb _ _ g) (lt-ltb _ _ (subst (λ n. c.loop-cell.at.piece < pieces c.in-Ok.cell.width n) (sym most) h))))
     ] in
-    passed_on (λ v. passes d w v ≡ false) _ _ _ c.loop-cell.invariant.0 skipped.0 c.loop-cell.invariant.1 skipped.1 c.loop-cell.invariant.2 skipped.2
+    subst (λ n. (s : List Run) × (left_at d m i c.args.from ≡ s ++ left_at d m i n) × AllByRecursion (λ v. passes d w v ≡ false) s) (sym c.next_cell-at.ensures)
+    (passed_on (λ v. passes d w v ≡ false) _ _ _ c.loop-cell.invariant.0 skipped.0 c.loop-cell.invariant.1 skipped.1 c.loop-cell.invariant.2 skipped.2)
 
 pub returns : goal.returns
 returns c =
