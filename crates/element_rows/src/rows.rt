@@ -29,12 +29,12 @@ fn write_row<E: Element>(row: &[E], into: &mut [u32]) -> usize
     ensures after { into.new ≡ words_of_row E.words row.now ++ drop (length row.now * E.width) into.old }
 {
     let size = E::size();
-    let mut at = 0;
-    for x in row {
+    // By index: of a slice written through `chunks_exact_mut` a proof knows the length and not the words.
+    for (k, x) in row.iter().enumerate() {
+        let at = k * size;
         write(*x, &mut into[at..at + size]);
-        at += size;
     }
-    at
+    row.len() * size
 }
 
 fn write<E: Element>(x: E, into: &mut [u32])
@@ -63,12 +63,12 @@ fn read_row<E: Element>(from: &[u32], row: &mut [E]) -> usize
     ensures after { row.new ≡ row_of_words E.back E.width (length row.old) from.now }
 {
     let size = E::size();
-    let mut at = 0;
-    for x in row.iter_mut() {
+    // By index, as `write_row`: the same holds of an `iter_mut` in a `zip`.
+    for (k, x) in row.iter_mut().enumerate() {
+        let at = k * size;
         *x = read(&from[at..at + size]);
-        at += size;
     }
-    at
+    row.len() * size
 }
 
 // Reads the element at `index` of a row alone, or `None` where its words are not all there.

@@ -71,7 +71,7 @@ impl Element for Pair {
     }
 
     fn is_one(self) -> bool {
-        self.real.value == 1 && self.imaginary.value == 0
+        self == Self::ONE
     }
 
     fn to_words(self) -> [u32; MOST_WORDS] {
@@ -79,9 +79,10 @@ impl Element for Pair {
     }
 
     fn from_words(from: [u32; MOST_WORDS]) -> Pair {
+        let [real, imaginary, ..] = from;
         Pair {
-            real: Word { value: from[0] },
-            imaginary: Word { value: from[1] },
+            real: Word { value: real },
+            imaginary: Word { value: imaginary },
         }
     }
 }

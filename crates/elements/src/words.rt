@@ -54,7 +54,7 @@ impl Element for Word {
     }
 
     fn is_one(self) -> bool {
-        self.value == 1
+        self == Self::ONE
     }
 
     fn to_words(self) -> [u32; MOST_WORDS] {
@@ -62,6 +62,7 @@ impl Element for Word {
     }
 
     fn from_words(from: [u32; MOST_WORDS]) -> Word {
-        Word { value: from[0] }
+        let [value, ..] = from;
+        Word { value }
     }
 }

@@ -1,12 +1,16 @@
-use Rattle.std.proofs.Common.{ap}
-use Rattle.std.proofs.lemmas.Bool.{eqb-true, eq-eqb}
+use Rattle.std.proofs.Common.{◌&&◌, eqb, sym, ap, ◌∙◌}
+use Rattle.std.proofs.lemmas.Bool.{and_parts, eqb-true}
 use Rattle.elements.specs.Equal.{pair_equal}
 use Rattle.elements.specs.Pairs.{pair_one}
 use Rattle.elements.proofs.pairs.PairElement.is_one.Goals as goal
 
-pub returns-then-self-eq1 : goal.returns-then-self-eq1
-returns-then-self-eq1 c =
+pub returns : goal.returns
+returns c =
     let a = c.args.self in
     record {
-      value = (λ e. pair_equal a pair_one c.if-self-eq1.true (eqb-true a.imaginary.value 0 e), λ e. eq-eqb a.imaginary.value 0 (ap (λ b. b.imaginary.value) e));
+      value = (
+        λ e. (let p = and_parts (eqb a.real.value 1) (eqb a.imaginary.value 0) (sym c.eq.ensures ∙ e) in
+            pair_equal a pair_one (eqb-true a.real.value 1 p.0) (eqb-true a.imaginary.value 0 p.1)),
+        λ e. c.eq.ensures ∙ ap (λ b. eqb b.real.value 1 && eqb b.imaginary.value 0) e,
+      );
     }
