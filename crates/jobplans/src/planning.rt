@@ -1,6 +1,6 @@
 // From a job to its plan: the layouts are made, then the tariff, then the drawing, and the plan is settled
 // or proposed.
-ghost use Rattle.std.specs.Prelude.{◌≡◌, IfOk, MatchResult};
+ghost use Rattle.std.specs.Prelude.{◌≡◌, MatchResult};
 
 use crate::planned::Planned;
 use crate::refusal::Refusal;
@@ -21,18 +21,44 @@ use tariffs::{Plain, Tariff};
 // The naming that gives each role the board of its own number.
 const OWN: [usize; 16] = [0, 1, 2, 3, 4, 5, 6, 7, 8, 9, 10, 11, 12, 13, 14, 15];
 
-// Both layouts of a job.
+// What is asked: a plan of least bill, or the plan of the sheet.
 #[derive(Clone, Copy)]
-struct Layouts {
-    target: Layout,
-    source: Layout,
+enum Wish<'a> {
+    Settle,
+    Adopt(&'a [u8]),
 }
 
-// What is asked: a plan of least bill, or the plan of the sheet that goes along.
+// A job with its layouts, and what is asked of it.
 #[derive(Clone, Copy)]
-enum Wish {
-    Settle,
-    Adopt,
+struct Request<'a> {
+    job: &'a Job,
+    source: Layout,
+    target: Layout,
+    wish: Wish<'a>,
+}
+
+// What a request comes to.
+#[derive(Clone, Copy)]
+struct Found {
+    words: u8,
+    drawing: Drawing,
+    own: u64,
+    plan: Plan,
+}
+
+impl Found {
+    fn planned(self, boards: usize) -> Planned
+        ensures count { result.boards ≡ boards }
+    {
+        Planned {
+            boards,
+            words: self.words,
+            drawing: self.drawing,
+            own: self.own,
+            bill: self.plan.bill,
+            plan: self.plan,
+        }
+    }
 }
 
 fn layout(boards: usize, text: &LayoutText) -> Result<Layout, Fault> {
@@ -47,153 +73,123 @@ fn layout(boards: usize, text: &LayoutText) -> Result<Layout, Fault> {
     )
 }
 
+// A tariff with a list of surcharges over it.
+fn surcharged<T: Tariff + Drop>(tariff: T, list: &[u32]) -> Result<Surcharge<T>, Fault> {
+    let charges = Charges::new(&tariff, list)?;
+    Ok(Surcharge::new(tariff, charges))
+}
+
 // What own names cost.
 fn own_names<E: Element, T: Tariff>(drawing: &Drawing, alpha: E, tariff: &T) -> Result<u64, Fault> {
     let costs = costs(Call::Settle, drawing, alpha, tariff)?;
     bill(&costs, &OWN)
 }
 
-// The plan that the book has of the job, or takes from the sheet.
-fn plan<E: Element, T: Tariff>(
-    job: &Job,
-    layouts: &Layouts,
-    tariff: &T,
-    alpha: E,
-    wish: Wish,
-    sheet: &[u8],
-) -> Result<Plan, Stop> {
-    let Layouts { target, source } = layouts;
-    let mut book = Book::new();
-    book.draw(
-        job.operation,
-        target,
-        source,
-        alpha,
-        job.source.share,
-        job.target.share,
-    )?;
-    match wish {
-        Wish::Settle => book.settle(tariff)?,
-        Wish::Adopt => book.adopt(tariff, &Plan::read(sheet)?)?,
+impl Request<'_> {
+    fn drawing(&self) -> Result<Drawing, Fault> {
+        let job = self.job;
+        Drawing::new(
+            job.operation,
+            &self.target,
+            &self.source,
+            job.source.share,
+            job.target.share,
+        )
     }
-    Ok(book.plan()?)
-}
 
-fn with_element<E: Element, T: Tariff>(
-    job: &Job,
-    layouts: &Layouts,
-    tariff: &T,
-    alpha: E,
-    wish: Wish,
-    sheet: &[u8],
-) -> Result<Planned, Stop>
-    ensures count { IfOk result (λ p. p.boards ≡ job.now.boards) }
-{
-    let plan = plan(job, layouts, tariff, alpha, wish, sheet)?;
-    let drawing = Drawing::new(
-        job.operation,
-        &layouts.target,
-        &layouts.source,
-        job.source.share,
-        job.target.share,
-    )?;
-    let own = own_names(&drawing, alpha, tariff)?;
-    Ok(Planned {
-        boards: job.boards,
-        words: E::size() as u8,
-        drawing,
-        own,
-        bill: plan.bill,
-        plan,
-    })
-}
-
-fn with_tariff<T: Tariff>(
-    job: &Job,
-    layouts: &Layouts,
-    tariff: &T,
-    wish: Wish,
-    sheet: &[u8],
-) -> Result<Planned, Stop>
-    ensures count { IfOk result (λ p. p.boards ≡ job.now.boards) }
-{
-    match job.alpha {
-        Alpha::Word(value) => {
-            let alpha = Word::from_words([value, 0, 0, 0]);
-            with_element(job, layouts, tariff, alpha, wish, sheet)
+    // The plan that the book has of the job, or takes from the sheet. A closure in place of the wish could not be
+    // generic over the element.
+    fn plan<E: Element, T: Tariff>(&self, tariff: &T, alpha: E) -> Result<Plan, Stop> {
+        let job = self.job;
+        let mut book = Book::new();
+        book.draw(
+            job.operation,
+            &self.target,
+            &self.source,
+            alpha,
+            job.source.share,
+            job.target.share,
+        )?;
+        match self.wish {
+            Wish::Settle => book.settle(tariff)?,
+            Wish::Adopt(sheet) => book.adopt(tariff, &Plan::read(sheet)?)?,
         }
-        Alpha::Pair(real, imaginary) => {
-            let alpha = Pair::from_words([real, imaginary, 0, 0]);
-            with_element(job, layouts, tariff, alpha, wish, sheet)
+        Ok(book.plan()?)
+    }
+
+    fn with_element<E: Element, T: Tariff>(&self, tariff: &T, alpha: E) -> Result<Found, Stop> {
+        let plan = self.plan(tariff, alpha)?;
+        let drawing = self.drawing()?;
+        let own = own_names(&drawing, alpha, tariff)?;
+        Ok(Found {
+            words: E::size() as u8,
+            drawing,
+            own,
+            plan,
+        })
+    }
+
+    fn with_tariff<T: Tariff>(&self, tariff: &T) -> Result<Found, Stop> {
+        match self.job.alpha {
+            Alpha::Word(value) => self.with_element(tariff, Word::from_words([value, 0, 0, 0])),
+            Alpha::Pair(real, imaginary) => {
+                self.with_element(tariff, Pair::from_words([real, imaginary, 0, 0]))
+            }
+        }
+    }
+
+    // Lays the job's surcharges over a tariff. Each one makes another type, so each count of them has its arm.
+    fn with_surcharges<T: Tariff + Drop>(&self, tariff: T) -> Result<Found, Stop> {
+        match self.job.surcharges.as_slice() {
+            [] => self.with_tariff(&tariff),
+            [first] => self.with_tariff(&surcharged(tariff, first)?),
+            [first, second, ..] => {
+                self.with_tariff(&surcharged(surcharged(tariff, first)?, second)?)
+            }
         }
     }
 }
 
-// Lays the job's surcharges over a tariff.
-fn with_surcharges<T: Tariff + Drop>(
-    job: &Job,
-    layouts: &Layouts,
-    tariff: T,
-    wish: Wish,
-    sheet: &[u8],
-) -> Result<Planned, Stop>
-    ensures count { IfOk result (λ p. p.boards ≡ job.now.boards) }
-{
-    match job.surcharges.as_slice() {
-        [] => with_tariff(job, layouts, &tariff, wish, sheet),
-        [first] => {
-            let charges = Charges::new(&tariff, first)?;
-            with_tariff(job, layouts, &Surcharge::new(tariff, charges), wish, sheet)
-        }
-        [first, second, ..] => {
-            let charges = Charges::new(&tariff, first)?;
-            let once = Surcharge::new(tariff, charges);
-            let charges = Charges::new(&once, second)?;
-            with_tariff(job, layouts, &Surcharge::new(once, charges), wish, sheet)
-        }
-    }
-}
-
-fn planned(job: &Job, wish: Wish, sheet: &[u8]) -> Result<Planned, Stop>
-    ensures count { IfOk result (λ p. p.boards ≡ job.now.boards) }
-{
+fn fulfil(job: &Job, wish: Wish<'_>) -> Result<Found, Stop> {
     let source = layout(job.boards, &job.source)?;
     let target = layout(job.boards, &job.target)?;
-    let layouts = Layouts { target, source };
+    let request = Request {
+        job,
+        source,
+        target,
+        wish,
+    };
     match &job.tariff {
-        TariffText::Plain => with_surcharges(job, &layouts, Plain::new(job.boards)?, wish, sheet),
+        TariffText::Plain => request.with_surcharges(Plain::new(job.boards)?),
         TariffText::Table(prices) => {
             Table::check(job.boards, prices)?;
-            with_surcharges(job, &layouts, Table::new(job.boards, prices), wish, sheet)
+            request.with_surcharges(Table::new(job.boards, prices))
         }
     }
 }
 
-// Tells the cause with the job's count of boards.
-fn told(job: &Job, answer: Result<Planned, Stop>) -> Result<Planned, Refusal>
-    requires count { IfOk answer (λ p. p.boards ≡ job.now.boards) }
+// The plan that is wished for, or the cause of its refusal.
+fn answer(job: &Job, wish: Wish<'_>) -> Result<Planned, Refusal>
     ensures count { MatchResult result (λ p. p.boards ≡ job.now.boards) (λ f. f.boards ≡ job.now.boards) }
 {
-    let boards = job.boards;
-    match answer {
-        Ok(planned) => Ok(planned),
-        Err(stop) => Err(Refusal {
+    fulfil(job, wish)
+        .map(|found| found.planned(job.boards))
+        .map_err(|stop| Refusal {
             cause: stop.cause,
-            boards,
-        }),
-    }
+            boards: job.boards,
+        })
 }
 
 // The job's plan of least bill.
 pub fn settled(job: &Job) -> Result<Planned, Refusal>
     ensures count { MatchResult result (λ p. p.boards ≡ job.now.boards) (λ f. f.boards ≡ job.now.boards) }
 {
-    told(job, planned(job, Wish::Settle, &[]))
+    answer(job, Wish::Settle)
 }
 
 // The plan of the sheet, where it is one of least bill for the job.
 pub fn adopted(job: &Job, sheet: &[u8]) -> Result<Planned, Refusal>
     ensures count { MatchResult result (λ p. p.boards ≡ job.now.boards) (λ f. f.boards ≡ job.now.boards) }
 {
-    told(job, planned(job, Wish::Adopt, sheet))
+    answer(job, Wish::Adopt(sheet))
 }

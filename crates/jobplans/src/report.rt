@@ -23,13 +23,9 @@ pub struct Sheet<'a>(pub &'a Plan);
 // The rows and the columns of cells. Cells are numbered row by row from the top.
 fn overlay(drawing: &Drawing) -> Option<(usize, usize)> {
     let cells = drawing.cell_count();
-    let mut columns = 0usize;
-    for k in 0..cells {
-        match drawing.cell(k) {
-            Ok(cell) if cell.top == 0 => columns = k + 1,
-            _ => break,
-        }
-    }
+    let columns = (0..cells)
+        .take_while(|&k| matches!(drawing.cell(k), Ok(cell) if cell.top == 0))
+        .count();
     Some((cells.checked_div(columns)?, columns))
 }
 
@@ -53,9 +49,10 @@ fn write_packages<W: fmt::Write>(planned: &Planned, f: &mut fmt::Formatter<W>) -
     for sender in 0..planned.boards {
         write!(f, "{sender:>5}")?;
         for role in 0..planned.boards {
-            let Ok(bytes) = planned.drawing.package_bytes(sender, role, planned.words) else {
-                return Err(fmt::Error);
-            };
+            let bytes = planned
+                .drawing
+                .package_bytes(sender, role, planned.words)
+                .map_err(|_| fmt::Error)?;
             write!(f, "{bytes:>10}")?;
         }
         writeln!(f)?;
@@ -66,9 +63,7 @@ fn write_packages<W: fmt::Write>(planned: &Planned, f: &mut fmt::Formatter<W>) -
 impl fmt::Display for Summary<'_> {
     fn fmt<W: fmt::Write>(&self, f: &mut fmt::Formatter<W>) -> fmt::Result {
         let planned = self.0;
-        let Some((rows, columns)) = overlay(&planned.drawing) else {
-            return Err(fmt::Error);
-        };
+        let (rows, columns) = overlay(&planned.drawing).ok_or(fmt::Error)?;
         writeln!(f, "overlay: {rows} x {columns} cells")?;
         writeln!(f)?;
         write_packages(planned, f)?;
@@ -87,25 +82,16 @@ impl fmt::Display for Summary<'_> {
 impl fmt::Display for Sheet<'_> {
     fn fmt<W: fmt::Write>(&self, f: &mut fmt::Formatter<W>) -> fmt::Result {
         let mut bytes = [0u8; SHEET];
-        let Ok(len) = self.0.write(&mut bytes) else {
-            return Err(fmt::Error);
-        };
-        let Some(text) = bytes.get(0..len) else {
-            return Err(fmt::Error);
-        };
-        let Ok(text) = from_utf8(text) else {
-            return Err(fmt::Error);
-        };
-        f.write_str(text)
+        let len = self.0.write(&mut bytes).map_err(|_| fmt::Error)?;
+        let sheet = bytes.get(..len).ok_or(fmt::Error)?;
+        f.write_str(from_utf8(sheet).map_err(|_| fmt::Error)?)
     }
 }
 
 fn write_naming<W: fmt::Write>(planned: &Planned, f: &mut fmt::Formatter<W>) -> fmt::Result {
     writeln!(f, "naming:")?;
     for role in 0..planned.boards {
-        let Ok(line) = planned.plan.line(role) else {
-            return Err(fmt::Error);
-        };
+        let line = planned.plan.line(role).map_err(|_| fmt::Error)?;
         let board = line.board;
         writeln!(f, "role {role} to board {board}")?;
     }
