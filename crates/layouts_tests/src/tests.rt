@@ -25,10 +25,7 @@ fn example(letter: char) -> Result<Layout, Fault> {
 
 // The cause for which a layout is refused, if it is.
 fn cause_of(made: Result<Layout, Fault>) -> Option<Cause> {
-    match made {
-        Ok(_) => None,
-        Err(fault) => Some(fault.cause),
-    }
+    made.err().map(|fault| fault.cause)
 }
 
 #[test]
@@ -88,16 +85,8 @@ fn elements_lie_by_rows_or_by_columns_inside_a_block(rt: HostRuntime) -> Result<
 #[test]
 fn questions_beyond_their_range_are_refused(rt: HostRuntime) -> Result<(), Fail> {
     let layout = example('R')?;
-    let beyond = Fault {
-        layer: Layer::Layouts,
-        call: Call::Ask,
-        cause: Cause::Beyond { index: 0 },
-    };
-    let board = Fault {
-        layer: Layer::Layouts,
-        call: Call::Ask,
-        cause: Cause::Board { number: 3 },
-    };
+    let beyond = Fault::new(Layer::Layouts, Call::Ask, Cause::Beyond { index: 0 });
+    let board = Fault::new(Layer::Layouts, Call::Ask, Cause::Board { number: 3 });
     assert_eq!(rt; layout.total(3), Err(board));
     assert_eq!(rt; layout.cover(5, 0), Err(beyond));
     assert_eq!(rt; layout.cover(0, 6), Err(beyond));
