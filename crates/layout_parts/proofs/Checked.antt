@@ -23,6 +23,15 @@ module _ (k : Checked) where
       let w : length k.given.column_splits.now - 1 ≤ 32 = omega (arith, sound.column_side.short) in
       mul-le-mul h w
 
+  pub in_blocks : (b : ℕ) → b < length k.given.owners.now → b < blocks (checked_grid k)
+  in_blocks b l = omega (arith, counted)
+
+  pub in_tables : (b : ℕ) → b < length k.given.owners.now → b < 1024
+  in_tables b l = omega (arith, counted, few)
+
+  pub board : (b : ℕ) → b < length k.given.owners.now → get_or k.given.owners.now b 0 < 16
+  board b l = omega (arith, sound.owned.below b (in_blocks b l), k.buildable.boards.1)
+
   pub owners_few : length k.given.owners.now ≤ 1024
   owners_few = omega (arith, counted, few)
 
@@ -54,9 +63,6 @@ module _ (k : Checked) where
 
     pub wide : left (checked_grid k) b < right (checked_grid k) b
     wide = block_wide k.given.boards k.given.rows k.given.columns (checked_grid k) sound b l
-
-    pub board : get_or k.given.owners.now b 0 < 16
-    board = omega (arith, sound.owned.below b l, k.buildable.boards.1)
 
     -- an owner's blocks up to and with this one have no more elements than the matrix
     pub little : start (checked_grid k) b + room (checked_grid k) b ≤ 1048576

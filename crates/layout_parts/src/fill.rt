@@ -36,6 +36,7 @@ impl Checked<'_> {
 
     // For each block how far from the beginning of its owner's part it begins, and for each board how many
     // elements its blocks have in all.
+    #[tactic(auto, using(crate::proofs::Checked::board))]
     fn tally(self) -> ([u32; 1024], [u32; 16])
         ensures starts { (b : ℕ) → b < length self.entry.given.owners.now → slice_index result.0 b ≡ start (checked_grid self.entry) b }
         ensures rest { (b : ℕ) → length self.entry.given.owners.now ≤ b → slice_index result.0 b ≡ 0 }
