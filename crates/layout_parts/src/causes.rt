@@ -3,13 +3,13 @@ ghost use Rattle.std.specs.Prelude.{◌≡◌, Some};
 ghost use Rattle.faults.specs.Checks.{Checks};
 ghost use Rattle.layout_parts.specs.Refusals.{boards_cause, letter_cause, order_of, owners_cause, size_cause, splits_cause};
 
+use crate::parts::BOARDS;
 use faults::{Cause, Side};
 use splits::Order;
 use splits::cuts::first_wrong_split;
 use splits::owners::first_wrong_owner;
 
-const BOARDS: usize = 16;
-
+// The most rows or columns.
 const SIZE: usize = 1024;
 
 // The order that the letter names.

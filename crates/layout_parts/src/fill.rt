@@ -6,7 +6,7 @@ ghost use Rattle.splits.specs.Blocks.{blocks};
 ghost use Rattle.splits.specs.Places.{room, start, total};
 
 use crate::given::Checked;
-use crate::parts::{Parts, Tables};
+use crate::parts::{BLOCKS, BOARDS, Parts, Tables};
 
 // A table that begins with the items and is blank after them.
 fn table<T: Copy, const N: usize>(items: &[T], blank: T) -> [T; N]
@@ -37,14 +37,14 @@ impl Checked<'_> {
     // For each block how far from the beginning of its owner's part it begins, and for each board how many
     // elements its blocks have in all.
     #[tactic(auto, using(crate::proofs::Checked::board))]
-    fn tally(self) -> ([u32; 1024], [u32; 16])
+    fn tally(self) -> ([u32; BLOCKS], [u32; BOARDS])
         ensures starts { (b : ℕ) → b < length self.entry.given.owners.now → slice_index result.0 b ≡ start (checked_grid self.entry) b }
         ensures rest { (b : ℕ) → length self.entry.given.owners.now ≤ b → slice_index result.0 b ≡ 0 }
         ensures totals { (p : ℕ) → p < 16 → slice_index result.1 p ≡ total (checked_grid self.entry) p }
         ensures len { (length result.0 ≡ 1024) × (length result.1 ≡ 16) }
     {
-        let mut starts = [0; 1024];
-        let mut totals = [0; 16];
+        let mut starts = [0; BLOCKS];
+        let mut totals = [0; BOARDS];
         for (b, owner) in self.given.owners.iter().enumerate() {
             let owner = *owner as usize;
             starts[b] = totals[owner];
