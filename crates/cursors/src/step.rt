@@ -116,6 +116,7 @@ pub fn next(
 {
     let most = longest.clamp(1, LONGEST);
     let mut at = from;
+    // The loop walks the cursor that it hands out, so no range of cells stands beside it.
     while let Ok(cell) = drawing.cell(at.cell) {
         if at.stands(&cell, most) && cell.sender == sender && wanted.admits(cell.role) {
             return Some((at.run_at(&cell, most), at.advance(&cell, most)));

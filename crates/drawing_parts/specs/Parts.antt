@@ -1,10 +1,8 @@
 -- What the parts of a drawing have to do with each other. Assumes nothing.
---     places l                 where the lines of l stand; target_blocks l, the blocks of the target behind them; source_blocks l,
---                              those of the source
+--     places l                 where the lines of l stand
+--     target_blocks l          the blocks of the target behind them; source_blocks l, those of the source
 --     used l                   where the first line of l stands to where its last does
 --     Counted l                l has 1 to 63 spans, and its table its full length
---     Rising size zs           zs rises strictly from 0 to the size
---     Both xs ys zs            a number is an entry of zs exactly if it is one of xs or of ys
 --     Named xs table l         the table has the block of xs that covers each span's first index
 --     Ruled size xs ys l       the used part of l is the union of the splits xs and ys of a side of this size, and its tables
 --                              name the block of xs and the block of ys that each span lies in
@@ -13,12 +11,12 @@
 --     over op a b rs cs        the overlay of these parts
 --     elements_of op a b i j   the elements that board i of b sends for role j of a
 --     WithinShare l share      the share is one, and no owner's blocks exceed it
-use Rattle.std.specs.Prelude.{◌≡◌, ℕ, ◌+◌, ◌-◌, ◌<◌, ◌≤◌, ◌||◌, List, length, map, take, slice_index}
+use Rattle.std.specs.Prelude.{◌≡◌, ℕ, ◌+◌, ◌<◌, ◌≤◌, List, length, map, take, slice_index}
 use Rattle.drawing_parts.specs.declared.lines.Lines.{Lines}
 use Rattle.layouts.specs.declared.layout.Layout.{Layout}
 use Rattle.layouts.specs.Layouts.{grid_of, row_cuts, column_cuts, total_of}
 use Rattle.overlays.specs.declared.operation.Operation.{Operation}
-use Rattle.overlays.specs.Lines.{Union, among}
+use Rattle.overlays.specs.Lines.{Union}
 use Rattle.overlays.specs.Overlays.{Overlay, overlay}
 use Rattle.overlays.specs.Packages.{elements}
 use Rattle.overlays.specs.Turns.{turned}
@@ -38,13 +36,6 @@ used l = take (l.spans + 1) (places l)
 
 abbrev pub Counted : Lines → Type 0
 Counted l = (1 ≤ l.spans) × (l.spans ≤ 63) × (length l.lines ≡ 64)
-
-abbrev pub Rising : ℕ → List ℕ → Type 0
-Rising size zs =
-    (slice_index zs 0 ≡ 0) × ((k : ℕ) → k + 1 < length zs → slice_index zs k < slice_index zs (k + 1)) × (slice_index zs (length zs - 1) ≡ size) × (2 ≤ length zs)
-
-abbrev pub Both : List ℕ → List ℕ → List ℕ → Type 0
-Both xs ys zs = (v : ℕ) → among v zs ≡ (among v xs || among v ys)
 
 abbrev pub Named : List ℕ → List ℕ → Lines → Type 0
 Named xs table l = (k : ℕ) → k < l.spans → slice_index table k ≡ covering xs (slice_index (places l) k)

@@ -17,6 +17,7 @@ pub(crate) fn merge(size: u16, target: &[u16], source: &[u16]) -> Lines
     };
     let mut lines = [line; 64];
     let mut spans = 0;
+    // The count of the lines is a part of the result, so no iterator keeps it.
     while line.at < size {
         line = line.next(target, source);
         spans += 1;
