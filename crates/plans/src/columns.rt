@@ -16,10 +16,7 @@ fn field(bytes: &[u8], at: usize, width: usize, low: i64, high: i64) -> Option<i
     ensures value { result ≡ reads width low high (part bytes.now at width) }
     ensures found { IfSome result (λ z. Reads width low high (part bytes.now at width) z) }
 {
-    if bytes.len() < at + width {
-        return None;
-    }
-    number(&bytes[at..at + width], low, high)
+    number(bytes.get(at..at + width)?, low, high)
 }
 
 // The number from `low` to `high` in the four columns at `at`, if there is one.
@@ -46,5 +43,5 @@ pub(crate) fn line_ends(bytes: &[u8], at: usize) -> bool
     requires { at < 2 ^ 32 }
     ensures { result ≡ bytes_eq (10 ∷ []) (part bytes.now at 1) }
 {
-    at < bytes.len() && bytes[at] == b'\n'
+    bytes.get(at) == Some(&b'\n')
 }

@@ -3,13 +3,14 @@ ghost use Rattle.std.specs.Prelude.{◌≡◌, ℕ, ◌≤◌, length, slice_ind
 ghost use Rattle.sheets.specs.Lines.{blank};
 
 use sheets::Line;
+use sheets::limits::BOARDS;
 
 // Whoever writes a public field owes the rules below.
 #[derive(Clone, Copy)]
 pub struct Plan {
     pub boards: usize,
     pub bill: u64,
-    pub(crate) lines: [Line; 16],
+    pub(crate) lines: [Line; BOARDS],
     ghost sized: { length lines ≡ 16 },
     ghost rest: { (x : ℕ) → boards ≤ x → slice_index_or lines x blank ≡ blank },
 }

@@ -17,7 +17,7 @@ impl Plan {
     pub fn new(boards: usize, bill: u64) -> Plan
         ensures { Blank boards bill result }
     {
-        let lines = [Line::default(); 16];
+        let lines = [Line::default(); BOARDS];
         Plan {
             boards,
             bill,

@@ -11,7 +11,7 @@ use crate::columns::{line_ends, small, wide};
 use crate::plan::Plan;
 use faults::{Call, Cause, Fault, Layer};
 use sheets::Line;
-use sheets::limits::{BILL, PRICE};
+use sheets::limits::{BILL, BOARDS, PRICE};
 
 // The line of number `x` in a sheet for so many boards.
 fn read_line(bytes: &[u8], x: usize, boards: usize) -> Result<Line, Cause>
@@ -35,7 +35,7 @@ fn read_lines(bytes: &[u8], boards: usize, bill: u64) -> Result<Plan, Cause>
     requires { (1 ≤ boards) × (boards ≤ 16) }
     ensures { Checks (first_illegal bytes.now (lines_fields boards 0 boards)) result (λ p. LinesRead bytes.now boards bill p) }
 {
-    let mut lines = [Line::default(); 16];
+    let mut lines = [Line::default(); BOARDS];
     for x in 0..boards {
         lines[x] = read_line(bytes, x, boards)?;
     }

@@ -65,7 +65,7 @@ fn check_plan(plan: &Plan, room: usize) -> Result<(), Cause>
 
 // Puts a number's text into the `width` columns at `at`.
 fn put(buffer: &mut [u8], at: usize, width: usize, z: i64)
-    requires { (width ≤ 20) × (at + width ≤ length buffer.old) × (unsigned_abs z < 10 ^ 19) × (length (signed_decimal z) ≤ width) }
+    requires { (width ≤ 20) × (at + width ≤ length buffer.old) × (length (signed_decimal z) ≤ width) }
     ensures { buffer.new ≡ paste buffer.old at (text width z) width }
 {
     let columns = numeral(z);

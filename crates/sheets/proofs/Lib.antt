@@ -2,10 +2,8 @@ pub mod Fields
 pub mod LineFields
 pub mod LinesRead
 pub mod Meant
-pub mod Numerals
 pub mod OneSheet
 pub mod Pasting
 pub mod ReadBack
 pub mod Refusals
 pub mod SheetRead
-pub mod Spelling

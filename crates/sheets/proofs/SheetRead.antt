@@ -11,22 +11,12 @@ use Rattle.sheets.specs.Text.{reads}
 use Rattle.sheets.proofs.Fields.{same_no}
 use Rattle.sheets.proofs.LinesRead.{illegal_after, illegal_before}
 
-pub count_fails : (bs : List ℕ) → None ≡ reads 4 (pos 1) (pos 16) (part bs 0 4) → read_refusal bs ≡ Some (Field 1 1)
-unfolding read_refusal
-count_fails bs e = rw (← e) refl
-
 module _ (bs : List ℕ) (n : ℕ) (count : Some (pos n) ≡ reads 4 (pos 1) (pos 16) (part bs 0 4)) where
   by_count : read_refusal bs ≡ first_illegal bs (fields bs n)
   unfolding read_refusal
   by_count = rw (← count) refl
 
-  pub bill_fails : None ≡ reads 20 (pos 0) bill_high (part bs 4 20) → read_refusal bs ≡ Some (Field 1 5)
-  bill_fails e = by_count ∙ rw (← e) refl
-
   module _ (z : ℤ) (bill : Some z ≡ reads 20 (pos 0) bill_high (part bs 4 20)) where
-    pub end_fails : false ≡ bytes_eq (10 ∷ []) (part bs 24 1) → read_refusal bs ≡ Some (Field 1 25)
-    end_fails e = by_count ∙ rw (← bill, ← e) refl
-
     module _ (ends : true ≡ bytes_eq (10 ∷ []) (part bs 24 1)) where
       first_stands : read_refusal bs ≡ first_illegal bs (lines_fields n 0 n ++ end_field bs n ∷ [])
       first_stands = by_count ∙ rw (← bill, ← ends) refl

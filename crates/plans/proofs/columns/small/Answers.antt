@@ -3,12 +3,8 @@ use Rattle.std.proofs.lemmas.Int.{to_z_pos}
 use Rattle.sheets.proofs.Fields.{room_small}
 use Rattle.plans.proofs.columns.small.Goals as goal
 
-pub field-requires : goal.field-requires
-field-requires c =
+pub field-requires-clause-room : goal.field-requires-clause-room
+field-requires-clause-room c =
     let low : to_z w64 c.args.low ≡ pos c.args.low = to_z_pos w64 c.args.low (omega arith) in
     let high : to_z w64 c.args.high ≡ pos c.args.high = to_z_pos w64 c.args.high (omega arith) in
-    record {
-      place = (c.requires.0, omega arith, omega arith);
-      limits = (rw low (omega arith), rw high (omega arith));
-      room = rw (low, high) (room_small c.args.low c.args.high c.requires.2);
-    }
+    rw (low, high) (room_small c.args.low c.args.high c.requires.2)

@@ -12,13 +12,13 @@ use Rattle.std.proofs.lemmas.Bool.Decides.{Decides-eqb}
 pub returns-in_err-z : goal.returns-in_err-z
 returns-in_err-z c =
     c.from_residual.ensures
-    ∙ reads_far (length c.args.field.now) c.args.low c.args.high c.args.field.now c.requires.limits.0 c.requires.limits.1 c.in_err-z.ensures
+    ∙ reads_far (length c.args.field.now) c.args.low c.args.high c.args.field.now c.requires.limits.0 c.requires.limits.1 (omega (arith, c.in_err-z.ensures))
 
 pub returns-then-z-low : goal.returns-then-z-low
 returns-then-z-low c =
     let w = length c.args.field.now in
     let z = c.in_ok-z.z in
-    let is = c.in_ok-z.ensures.0 in
+    let is = c.in_ok-z.ensures in
     elim c.then-z-low.branch [
       | then-z-low-via-then-z-low v ↦ reads_low w c.args.low c.args.high c.args.field.now z is (grind (arith, ints))
       | then-z-low-via-else-z-low+then-high-z v ↦ reads_high w c.args.low c.args.high c.args.field.now z is (grind (arith, ints))
@@ -41,10 +41,10 @@ pub returns-then-eq : goal.returns-then-eq
 returns-then-eq c =
     let fits : SFits w64 c.in_ok-z.z = search rules in
     taken c.args.field.now c.numeral-columns.result c.in_ok-z.z c.args.low c.args.high c.eq.result c.requires.width fits
-    (grind (arith, ints)) (grind (arith, ints)) c.requires.room c.numeral-columns.ensures (slice_eq-Decides Decides-eqb _ _ _ c.eq.ensures) c.in_ok-z.ensures.0 c.if-eq.true
+    (grind (arith, ints)) (grind (arith, ints)) c.requires.room c.numeral-columns.ensures (slice_eq-Decides Decides-eqb _ _ _ c.eq.ensures) c.in_ok-z.ensures c.if-eq.true
 
 pub returns-else-eq : goal.returns-else-eq
 returns-else-eq c =
     let fits : SFits w64 c.in_ok-z.z = search rules in
     passed c.args.field.now c.numeral-columns.result c.in_ok-z.z c.args.low c.args.high c.eq.result c.requires.width fits
-    (grind (arith, ints)) (grind (arith, ints)) c.requires.room c.numeral-columns.ensures (slice_eq-Decides Decides-eqb _ _ _ c.eq.ensures) c.in_ok-z.ensures.0 c.if-eq.false
+    (grind (arith, ints)) (grind (arith, ints)) c.requires.room c.numeral-columns.ensures (slice_eq-Decides Decides-eqb _ _ _ c.eq.ensures) c.in_ok-z.ensures c.if-eq.false

@@ -8,6 +8,5 @@ put-requires c =
     let e : to_z w64 c.args.n ≡ pos c.args.n = to_z_pos w64 c.args.n (omega arith) in (
       omega arith,
       c.requires.0,
-      rw e (omega arith),
       rw e (room_small c.args.n c.args.n c.requires.1 (pos c.args.n) (omega (arith, ints)) (omega (arith, ints))),
     )

@@ -9,6 +9,5 @@ put-requires c =
     let e : to_z w64 (of_z w64 c.args.z) ≡ c.args.z = to_z-of_z w64 c.args.z c.ranges.z in (
       omega arith,
       c.requires.0,
-      rw e (omega arith),
       rw e (room_wide c.args.z c.args.z c.requires.1 c.requires.1 c.args.z (omega (arith, ints)) (omega (arith, ints))),
     )
