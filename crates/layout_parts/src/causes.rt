@@ -1,5 +1,5 @@
 // The checks of what a layout is to be made of.
-ghost use Rattle.std.specs.Prelude.{◌≡◌, Some};
+ghost use Rattle.std.specs.Prelude.{◌≡◌, ◌&&◌, None, Some, cond, nat_le};
 ghost use Rattle.faults.specs.Checks.{Checks};
 ghost use Rattle.layout_parts.specs.Refusals.{boards_cause, letter_cause, order_of, owners_cause, size_cause, splits_cause};
 
@@ -21,24 +21,27 @@ pub(crate) fn order_named(letter: char) -> Result<Order, Cause>
     })
 }
 
+// Refuses a count that is not from 1 to the most.
+fn check_count(count: usize, most: usize, cause: Cause) -> Result<(), Cause>
+    ensures { Checks (cond (nat_le 1 count && nat_le count most) None (Some cause)) result (λ _. Unit {0}) }
+{
+    if (1..=most).contains(&count) {
+        Ok(())
+    } else {
+        Err(cause)
+    }
+}
+
 pub(crate) fn check_boards(boards: usize) -> Result<(), Cause>
     ensures { Checks (boards_cause boards) result (λ _. Unit {0}) }
 {
-    if 1 <= boards && boards <= BOARDS {
-        Ok(())
-    } else {
-        Err(Cause::Board { number: boards })
-    }
+    check_count(boards, BOARDS, Cause::Board { number: boards })
 }
 
 pub(crate) fn check_size(size: usize) -> Result<(), Cause>
     ensures { Checks (size_cause size) result (λ _. Unit {0}) }
 {
-    if 1 <= size && size <= SIZE {
-        Ok(())
-    } else {
-        Err(Cause::Size { number: size })
-    }
+    check_count(size, SIZE, Cause::Size { number: size })
 }
 
 pub(crate) fn check_splits(side: Side, size: usize, splits: &[u16]) -> Result<(), Cause>
