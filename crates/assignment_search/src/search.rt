@@ -1,29 +1,90 @@
-// Growing the tree of shortest paths from a role without a board.
+// The search for a least naming: each role in turn takes a board, along a shortest path.
 ghost use Rattle.std.specs.Prelude.{◌≡◌, ℕ, ◌+◌, ◌*◌, ◌^◌, ◌<◌, ◌≤◌, length};
 ghost use Rattle.assignment_costs.specs.Costs.{cost_at};
 ghost use Rattle.assignment_search.specs.Search.{val, Offered, Relaxed, IsPartial, Nearest, Planted};
-ghost use Rattle.assignment_search.specs.Trees.{Matched, Fair, Found, Joined};
+ghost use Rattle.assignment_search.specs.Trees.{Matched, Fair, Held, Found, Joined};
 
 use crate::paths::Path;
 use crate::tree::{Matching, Prices, Tree};
 use assignment_costs::Costs;
 
-// The tree of `root` alone: each board is as far as the root's own pair with it.
-fn plant(costs: &Costs, prices: &Prices, root: usize) -> Tree
-    requires root { root < costs.now.boards }
-    requires feasible { (y : ℕ) → y < costs.now.boards → val prices.now.roles root ≤ cost_at costs.now root y + val prices.now.discounts y }
-    requires low { (y : ℕ) → y < costs.now.boards → val prices.now.discounts y ≤ 2 ^ 44 }
-    ensures { Planted costs.now prices.now root result }
-{
-    let price = prices.roles[root];
-    let mut distance = [0; 16];
-    for y in 0..costs.boards {
-        distance[y] = costs.table[root * 16 + y] + prices.discounts[y] - price;
+// The search when the roles below `placed` have boards: the prices are feasible, and tight at these boards.
+#[derive(Drop)]
+pub(crate) struct Search<'a> {
+    pub(crate) costs: &'a Costs,
+    pub(crate) prices: Prices,
+    pub(crate) matching: Matching,
+    pub(crate) placed: usize,
+    ghost matched: { Matched costs.now.boards placed matching 16 },
+    ghost fair: { Fair costs.now prices matching },
+    ghost held: { Held costs.now prices matching 16 },
+}
+
+impl<'a> Search<'a> {
+    // Finds the next role a board; roles before it may have to change theirs.
+    pub(crate) fn place(&mut self)
+        requires { self.old.placed < self.old.costs.now.boards }
+        ensures costs { self.new.costs.now ≡ self.old.costs.now }
+        ensures placed { self.new.placed ≡ self.old.placed + 1 }
+    {
+        let path = self.grow();
+        path.settle(self.costs, &mut self.prices, &self.matching, self.placed);
+        path.switch(self.costs, &mut self.matching, self.placed);
+        self.placed += 1;
     }
-    Tree {
-        distance,
-        way: [root; 16],
-        joined: [None; 16],
+
+    // A shortest path from the next role to a board that nobody holds.
+    fn grow(&self) -> Path
+        requires { self.now.placed < self.now.costs.now.boards }
+        ensures { Found self.now.costs.now self.now.prices self.now.matching self.now.placed result.tree result.end }
+    {
+        let mut tree = self.plant();
+        let mut end = nearest(self.costs.boards, &tree);
+        let mut step = 0;
+        while self.matching.owner[end] < 16 {
+            join(&mut tree, end, step);
+            self.relax(self.matching.owner[end], tree.distance[end], &mut tree);
+            end = nearest(self.costs.boards, &tree);
+            step += 1;
+        }
+        join(&mut tree, end, step);
+        Path { tree, end }
+    }
+
+    // The tree of the next role alone: each board is as far as the role's own pair with it.
+    fn plant(&self) -> Tree
+        requires { self.now.placed < self.now.costs.now.boards }
+        ensures { Planted self.now.costs.now self.now.prices self.now.placed result }
+    {
+        let price = self.prices.roles[self.placed];
+        let mut distance = [0; 16];
+        for y in 0..self.costs.boards {
+            distance[y] = self.costs.table[self.placed * 16 + y] + self.prices.discounts[y] - price;
+        }
+        Tree {
+            distance,
+            way: [self.placed; 16],
+            joined: [None; 16],
+        }
+    }
+
+    // Lets every board outside the tree be reached from `role`, which is `base` away.
+    fn relax(&self, role: usize, base: u64, tree: &mut Tree)
+        requires role { role < self.now.costs.now.boards }
+        requires base { base ≤ 2 ^ 45 }
+        ensures { Relaxed self.now.costs.now self.now.prices role base tree.old tree.new }
+    {
+        let price = self.prices.roles[role];
+        for y in 0..self.costs.boards {
+            if tree.joined[y].is_none() {
+                offer(
+                    tree,
+                    y,
+                    role,
+                    base + self.costs.table[role * 16 + y] + self.prices.discounts[y] - price,
+                );
+            }
+        }
     }
 }
 
@@ -35,27 +96,6 @@ fn offer(tree: &mut Tree, board: usize, role: usize, reach: u64)
     if reach < tree.distance[board] {
         tree.distance[board] = reach;
         tree.way[board] = role;
-    }
-}
-
-// Lets every board outside the tree be reached from `role`, which is `base` away.
-fn relax(costs: &Costs, prices: &Prices, role: usize, base: u64, tree: &mut Tree)
-    requires role { role < costs.now.boards }
-    requires base { base ≤ 2 ^ 45 }
-    requires feasible { (y : ℕ) → y < costs.now.boards → val prices.now.roles role ≤ cost_at costs.now role y + val prices.now.discounts y }
-    requires low { (y : ℕ) → y < costs.now.boards → val prices.now.discounts y ≤ 2 ^ 44 }
-    ensures { Relaxed costs.now prices.now role base tree.old tree.new }
-{
-    let price = prices.roles[role];
-    for y in 0..costs.boards {
-        if tree.joined[y].is_none() {
-            offer(
-                tree,
-                y,
-                role,
-                base + costs.table[role * 16 + y] + prices.discounts[y] - price,
-            );
-        }
     }
 }
 
@@ -83,30 +123,4 @@ fn join(tree: &mut Tree, board: usize, step: usize)
     ensures { Joined tree.old board (step + 1) tree.new }
 {
     tree.joined[board] = Some(step);
-}
-
-// A shortest path from `root`, which has no board, to a board that nobody holds.
-pub(crate) fn grow(costs: &Costs, prices: &Prices, matching: &Matching, root: usize) -> Path
-    requires root { root < costs.now.boards }
-    requires matched { Matched costs.now.boards root matching.now 16 }
-    requires fair { Fair costs.now prices.now matching.now }
-    ensures { Found costs.now prices.now matching.now root result.tree result.end }
-{
-    let mut tree = plant(costs, prices, root);
-    let mut end = nearest(costs.boards, &tree);
-    let mut step = 0;
-    while matching.owner[end] < 16 {
-        join(&mut tree, end, step);
-        relax(
-            costs,
-            prices,
-            matching.owner[end],
-            tree.distance[end],
-            &mut tree,
-        );
-        end = nearest(costs.boards, &tree);
-        step += 1;
-    }
-    join(&mut tree, end, step);
-    Path { tree, end }
 }

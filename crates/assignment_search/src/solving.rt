@@ -1,8 +1,8 @@
-// Roles take boards one after another, each along a shortest path.
-ghost use Rattle.std.specs.Prelude.{◌≡◌, ℕ, ◌+◌, ◌^◌, ◌<◌, ◌≤◌};
-ghost use Rattle.assignment_search.specs.Trees.{Matched, Fair, Held, Full};
+// A board for every role.
+ghost use Rattle.std.specs.Prelude.{◌≡◌, ◌-◌, ◌≤◌};
+ghost use Rattle.assignment_search.specs.Trees.{Full};
 
-use crate::search::grow;
+use crate::search::Search;
 use crate::tree::{Match, Matching, Prices};
 use assignment_costs::Costs;
 
@@ -10,31 +10,23 @@ use assignment_costs::Costs;
 pub fn search_naming(costs: &Costs) -> Match
     ensures { Full costs.now result.prices result.matching }
 {
-    let mut prices = Prices {
-        roles: [0; 16],
-        discounts: [0; 16],
+    let mut search = Search {
+        costs,
+        prices: Prices {
+            roles: [0; 16],
+            discounts: [0; 16],
+        },
+        matching: Matching {
+            owner: [16; 16],
+            naming: [16; 16],
+        },
+        placed: 0,
     };
-    let mut matching = Matching {
-        owner: [16; 16],
-        naming: [16; 16],
-    };
-    for root in 0..costs.boards {
-        insert(costs, &mut prices, &mut matching, root);
+    while search.placed < costs.boards {
+        search.place();
     }
-    Match { matching, prices }
-}
-
-// Finds `root` a board; roles before it may have to change theirs.
-fn insert(costs: &Costs, prices: &mut Prices, matching: &mut Matching, root: usize)
-    requires root { root < costs.now.boards }
-    requires matched { Matched costs.now.boards root matching.old 16 }
-    requires fair { Fair costs.now prices.old matching.old }
-    requires held { Held costs.now prices.old matching.old 16 }
-    ensures matched { Matched costs.now.boards (root + 1) matching.new 16 }
-    ensures fair { Fair costs.now prices.new matching.new }
-    ensures held { Held costs.now prices.new matching.new 16 }
-{
-    let path = grow(costs, prices, matching, root);
-    path.settle(costs, prices, matching, root);
-    path.switch(costs, matching, root);
+    Match {
+        matching: search.matching,
+        prices: search.prices,
+    }
 }

@@ -1,5 +1,8 @@
-use Rattle.assignment_search.specs.Trees.{Matched, Fair, Held}
+use Rattle.std.proofs.Common.{◌-◌, ◌≡◌, ◌≤◌}
 use Rattle.assignment_search.proofs.solving.search_naming.Given as goal
 
-abbrev pub invariant-loop-root : goal.invariant-loop-root
-invariant-loop-root l = Matched l.costs.boards l.root l.matching 16 × Fair l.costs l.prices l.matching × Held l.costs l.prices l.matching 16
+abbrev pub invariant-loop-search : goal.invariant-loop-search
+invariant-loop-search l = (l.search.costs.now ≡ l.costs) × (l.search.placed ≤ l.costs.boards)
+
+abbrev pub decreases-loop-search : goal.decreases-loop-search
+decreases-loop-search l = l.costs.boards - l.search.placed

@@ -1,19 +1,19 @@
 use Rattle.std.proofs.Common.{◌+◌, arith}
 use Rattle.assignment_search.proofs.Growing.{grown_first, grown_more, low_more, partial_more, rooted_last, held_last, near_last, far_last}
-use Rattle.assignment_search.proofs.search.grow.Goals as goal
+use Rattle.assignment_search.proofs.search.Search.grow.Goals as goal
 
 pub loop-end-init : goal.loop-end-init
 loop-end-init c =
-    grown_first c.args.costs.now c.args.prices.now c.args.matching.now c.args.root c.plant-tree.result c.plant-tree.ensures
+    grown_first c.args.self.now.costs.now c.args.self.now.prices c.args.self.now.matching c.args.self.now.placed c.plant-tree.result c.plant-tree.ensures
     c.nearest-end.result
     c.nearest-end.ensures
 
 pub nearest-end-requires-in-loop-end : goal.nearest-end-requires-in-loop-end
 nearest-end-requires-in-loop-end c =
     record {
-      most = omega (arith, c.args.costs.now.most);
+      most = omega (arith, c.args.self.now.costs.now.most);
       low =
-          low_more c.args.costs.now c.args.prices.now c.args.matching.now c.args.root c.requires.matched c.requires.fair c.loop-end.tree
+          low_more c.args.self.now.costs.now c.args.self.now.prices c.args.self.now.matching c.args.self.now.placed c.args.self.now.matched c.args.self.now.fair c.loop-end.tree
           c.loop-end.end
           (c.loop-end.step + 1)
           c.loop-end.invariant
@@ -23,7 +23,7 @@ nearest-end-requires-in-loop-end c =
           c.relax.new.tree
           c.relax.ensures;
       outside =
-          partial_more c.args.costs.now c.args.prices.now c.args.matching.now c.args.root c.requires.matched c.requires.fair c.loop-end.tree
+          partial_more c.args.self.now.costs.now c.args.self.now.prices c.args.self.now.matching c.args.self.now.placed c.args.self.now.matched c.args.self.now.fair c.loop-end.tree
           c.loop-end.end
           (c.loop-end.step + 1)
           c.loop-end.invariant
@@ -32,12 +32,12 @@ nearest-end-requires-in-loop-end c =
           c.loop-end-test.true
           c.relax.new.tree
           c.relax.ensures
-          c.requires.root;
+          c.requires;
     }
 
 pub loop-end-preserved : goal.loop-end-preserved
 loop-end-preserved c =
-    grown_more c.args.costs.now c.args.prices.now c.args.matching.now c.args.root c.requires.matched c.requires.fair c.loop-end.tree
+    grown_more c.args.self.now.costs.now c.args.self.now.prices c.args.self.now.matching c.args.self.now.placed c.args.self.now.matched c.args.self.now.fair c.loop-end.tree
     c.loop-end.end
     (c.loop-end.step + 1)
     c.loop-end.invariant
@@ -59,7 +59,7 @@ returns c =
       free = c.loop-end-test.false;
       end_inside = omega (arith, c.join-2.ensures.here);
       rooted =
-          rooted_last c.args.costs.now c.args.prices.now c.args.matching.now c.args.root c.requires.matched c.requires.fair c.loop-end.tree
+          rooted_last c.args.self.now.costs.now c.args.self.now.prices c.args.self.now.matching c.args.self.now.placed c.args.self.now.matched c.args.self.now.fair c.loop-end.tree
           c.loop-end.end
           (c.loop-end.step + 1)
           c.loop-end.invariant
@@ -67,7 +67,7 @@ returns c =
           c.join-2.ensures
           c.loop-end-test.false;
       held =
-          held_last c.args.costs.now c.args.prices.now c.args.matching.now c.args.root c.requires.matched c.requires.fair c.loop-end.tree
+          held_last c.args.self.now.costs.now c.args.self.now.prices c.args.self.now.matching c.args.self.now.placed c.args.self.now.matched c.args.self.now.fair c.loop-end.tree
           c.loop-end.end
           (c.loop-end.step + 1)
           c.loop-end.invariant
@@ -79,18 +79,18 @@ returns c =
 pub invariant_of-result : goal.invariant_of-result
 invariant_of-result c =
     record {
-      end_most = omega (arith, c.loop-end.invariant.end, c.args.costs.now.most);
+      end_most = omega (arith, c.loop-end.invariant.end, c.args.self.now.costs.now.most);
       far_most =
-          far_last c.args.costs.now c.args.prices.now c.args.matching.now c.args.root c.requires.matched c.requires.fair c.loop-end.tree
+          far_last c.args.self.now.costs.now c.args.self.now.prices c.args.self.now.matching c.args.self.now.placed c.args.self.now.matched c.args.self.now.fair c.loop-end.tree
           c.loop-end.end
           (c.loop-end.step + 1)
           c.loop-end.invariant
           c.join-2.new.tree
           c.join-2.ensures
           c.loop-end-test.false
-          c.requires.root;
+          c.requires;
       near =
-          near_last c.args.costs.now c.args.prices.now c.args.matching.now c.args.root c.requires.matched c.requires.fair c.loop-end.tree
+          near_last c.args.self.now.costs.now c.args.self.now.prices c.args.self.now.matching c.args.self.now.placed c.args.self.now.matched c.args.self.now.fair c.loop-end.tree
           c.loop-end.end
           (c.loop-end.step + 1)
           c.loop-end.invariant
