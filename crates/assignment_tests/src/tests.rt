@@ -1,24 +1,19 @@
 // Small tables, with bills and prices worked by hand.
 use assignment::{Assignment, Costs, bill, judge, solve};
-use faults::Fault;
+use faults::{Cause, Fault};
 use std::test::Fail;
 
 const MOST: u64 = 17_592_186_044_416;
 
-// The number of the fault, or 0.
-fn number<T: Drop>(answer: Result<T, Fault>) -> u32 {
-    match answer {
-        Ok(_) => 0,
-        Err(fault) => fault.number(),
-    }
+// The number of the fault, if any.
+fn number<T: Drop>(answer: Result<T, Fault>) -> Option<u32> {
+    answer.err().map(|fault| fault.number())
 }
 
 fn named(names: &[usize]) -> [usize; 16] {
     let mut naming = [0; 16];
-    for (x, name) in names.iter().enumerate() {
-        if x < 16 {
-            naming[x] = *name;
-        }
+    for (slot, name) in naming.iter_mut().zip(names) {
+        *slot = *name;
     }
     naming
 }
@@ -72,12 +67,12 @@ fn sixteen_boards_at_the_limit(rt: HostRuntime) -> Result<(), Fail> {
 
 #[test]
 fn tables_outside_the_limits_are_refused(rt: HostRuntime) {
-    assert_eq!(rt; number(Costs::zero(0)), 2);
-    assert_eq!(rt; number(Costs::zero(17)), 2);
-    assert_eq!(rt; number(Costs::from_rows(0, &[])), 2);
-    assert_eq!(rt; number(Costs::from_rows(2, &[0, 0, 0])), 17);
-    assert_eq!(rt; number(Costs::from_rows(2, &[0, 0, 0, 0, 0])), 17);
-    assert_eq!(rt; number(Costs::from_rows(1, &[MOST + 1])), 17);
+    assert_eq!(rt; number(Costs::zero(0)), Some(2));
+    assert_eq!(rt; number(Costs::zero(17)), Some(2));
+    assert_eq!(rt; number(Costs::from_rows(0, &[])), Some(2));
+    assert_eq!(rt; number(Costs::from_rows(2, &[0, 0, 0])), Some(17));
+    assert_eq!(rt; number(Costs::from_rows(2, &[0, 0, 0, 0, 0])), Some(17));
+    assert_eq!(rt; number(Costs::from_rows(1, &[MOST + 1])), Some(17));
 }
 
 #[test]
@@ -86,11 +81,11 @@ fn a_cost_is_set_and_read_back(rt: HostRuntime) -> Result<(), Fail> {
     costs.set(1, 2, 7)?;
     assert_eq!(rt; costs.at(1, 2)?, 7);
     assert_eq!(rt; costs.at(2, 1)?, 0);
-    assert_eq!(rt; number(costs.set(3, 0, 7)), 2);
-    assert_eq!(rt; number(costs.set(0, 3, 7)), 2);
-    assert_eq!(rt; number(costs.set(0, 0, MOST + 1)), 17);
-    assert_eq!(rt; number(costs.at(0, 3)), 2);
-    assert_eq!(rt; number(costs.at(3, 0)), 2);
+    assert_eq!(rt; number(costs.set(3, 0, 7)), Some(2));
+    assert_eq!(rt; number(costs.set(0, 3, 7)), Some(2));
+    assert_eq!(rt; number(costs.set(0, 0, MOST + 1)), Some(17));
+    assert_eq!(rt; number(costs.at(0, 3)), Some(2));
+    assert_eq!(rt; number(costs.at(3, 0)), Some(2));
     Ok(())
 }
 
@@ -109,22 +104,16 @@ fn plan() -> Assignment {
     }
 }
 
-// The role at which a plan is refused, or 99.
-fn refused(costs: &Costs, plan: &Assignment) -> usize {
-    match judge(costs, plan) {
-        Ok(()) => 99,
-        Err(fault) => match fault.cause {
-            faults::Cause::Plan { role } => role,
-            _ => 98,
-        },
-    }
+// Why a plan is refused, if it is.
+fn refused(costs: &Costs, plan: &Assignment) -> Option<Cause> {
+    judge(costs, plan).err().map(|fault| fault.cause)
 }
 
 #[test]
 fn the_judge_accepts_prices_worked_by_hand(rt: HostRuntime) -> Result<(), Fail> {
     let costs = Costs::from_rows(2, &[0, 1, 1, 10])?;
-    assert_eq!(rt; refused(&costs, &plan()), 99);
-    assert_eq!(rt; refused(&costs, &solve(&costs)), 99);
+    assert_eq!(rt; refused(&costs, &plan()), None);
+    assert_eq!(rt; refused(&costs, &solve(&costs)), None);
     Ok(())
 }
 
@@ -135,22 +124,22 @@ fn the_judge_names_the_first_role_that_fails(rt: HostRuntime) -> Result<(), Fail
         naming: named(&[1, 1]),
         ..plan()
     };
-    assert_eq!(rt; refused(&costs, &twice), 1);
+    assert_eq!(rt; refused(&costs, &twice), Some(Cause::Plan { role: 1 }));
     let beyond = Assignment {
         naming: named(&[2, 0]),
         ..plan()
     };
-    assert_eq!(rt; refused(&costs, &beyond), 0);
+    assert_eq!(rt; refused(&costs, &beyond), Some(Cause::Plan { role: 0 }));
     let mut dear = plan();
     dear.boards[1] = 1_125_899_906_842_625;
-    assert_eq!(rt; refused(&costs, &dear), 1);
+    assert_eq!(rt; refused(&costs, &dear), Some(Cause::Plan { role: 1 }));
     let mut loose = plan();
     loose.roles[1] = 1;
-    assert_eq!(rt; refused(&costs, &loose), 1);
+    assert_eq!(rt; refused(&costs, &loose), Some(Cause::Plan { role: 1 }));
     let mut above = plan();
     above.boards[0] = 0;
-    assert_eq!(rt; refused(&costs, &above), 0);
+    assert_eq!(rt; refused(&costs, &above), Some(Cause::Plan { role: 0 }));
     let cheap = Assignment { bill: 1, ..plan() };
-    assert_eq!(rt; refused(&costs, &cheap), 2);
+    assert_eq!(rt; refused(&costs, &cheap), Some(Cause::Plan { role: 2 }));
     Ok(())
 }
