@@ -1,9 +1,10 @@
 -- One step of a cursor over a drawing.
-use Rattle.std.proofs.Common.{◌≡◌, ℕ, ◌+◌, ◌-◌, ◌*◌, ◌/◌, ◌%◌, ◌<◌, ◌≤◌, min, true, false, cond, ◌&&◌, ltb, List, [], ◌∷◌, ◌++◌, Some, None, Option, sym, ap, ◌∙◌, subst, inl, inr, append_assoc, arith}
+use Rattle.std.proofs.Common.{◌≡◌, ℕ, ◌+◌, ◌-◌, ◌*◌, ◌/◌, ◌%◌, ◌<◌, ◌≤◌, min, true, false, cond, ◌&&◌, ltb, List, [], ◌∷◌, ◌++◌, Some, None, sym, ap, ◌∙◌, subst, inl, inr, append_assoc, arith}
 use native.Mathlib.Nat.{sub-zero}
 use Rattle.std.proofs.lemmas.Bool.{and_parts, cases_Bool, cases_lt, cond-true, cond-false, lt-ltb, le-ltb, ltb-true, ltb-false}
 use Rattle.std.proofs.lemmas.Grind.{div_ceil_times}
 use Rattle.std.proofs.lemmas.Nat.{div-mul-add}
+use Rattle.std.proofs.lemmas.Option.{none-some}
 use Rattle.std.specs.Int.{div_ceil}
 use Rattle.std.specs.List.{AllByRecursion}
 use Rattle.faults.specs.declared.cause.Cause.{Cause}
@@ -31,9 +32,6 @@ ceil_is w m h =
     let r = w + (m - 1) - q * m in
     let e : q * m + r ≡ w + (m - 1) = omega (arith, t) in
     sym (div-mul-add q m r (omega (arith, t, h))) ∙ ap (λ x. x / m) e
-
-no_cause : (v : Cause) → ◌≡◌ {A = Option Cause} (Some v) None → ⊥
-no_cause v e = let z : ◌≡◌ {A = ℕ} 0 1 = cc in omega arith
 
 module _ (d : Drawing) where
   over_joined : Joined d.target.boards d.target.rows d.target.columns (overlay_of d)
@@ -141,13 +139,13 @@ pub is_cell : (d : Drawing) (k : ℕ) → cell_refusal d k ≡ None → k < cell
 is_cell d k e =
     elim (cases_Bool (ltb k (cells d))) [
       | inl t ↦ ltb-true k (cells d) t
-      | inr f ↦ absurd (no_cause (Beyond 0) (sym (cond-false (ltb k (cells d)) None (Some (Beyond 0)) f) ∙ e))
+      | inr f ↦ absurd (none-some (Beyond 0) (sym e ∙ cond-false (ltb k (cells d)) None (Some (Beyond 0)) f))
     ]
 
 pub no_cell : (d : Drawing) (k : ℕ) (v : Cause) → cell_refusal d k ≡ Some v → cells d ≤ k
 no_cell d k v e =
     elim (cases_Bool (ltb k (cells d))) [
-      | inl t ↦ absurd (no_cause v (sym e ∙ cond-true (ltb k (cells d)) None (Some (Beyond 0)) t))
+      | inl t ↦ absurd (none-some v (sym (cond-true (ltb k (cells d)) None (Some (Beyond 0)) t) ∙ e))
       | inr f ↦ ltb-false k (cells d) f
     ]
 

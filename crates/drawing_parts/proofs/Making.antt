@@ -1,6 +1,7 @@
 -- What a search below a number finds, and what is merged of a source that fits.
 use Rattle.std.proofs.Common.{◌≡◌, ℕ, zero, suc, ◌+◌, ◌<◌, ◌≤◌, Bool, true, false, cond, List, get_or, Some, None, Option, Bor, sym, refl, ap, ◌∙◌, subst, inl, inr, arith}
 use Rattle.std.proofs.lemmas.Bool.{cases_eq, cond-true, and_from, le-leb, ltb-false}
+use Rattle.std.proofs.lemmas.Option.{none-some}
 use Rattle.std.specs.Option.{option_map}
 use Rattle.std.specs.Prelude.{MatchOption}
 use Rattle.drawing_parts.specs.Refusals.{or_here, first_below, exceeds, share_cause}
@@ -41,12 +42,9 @@ pub first_is : (n : ℕ) (p : ℕ → Bool) (o : Option ℕ)
 first_is n p None h = sym (none_from n p (λ k l. h k (omega arith) l l))
 first_is n p (Some i) h = sym (found n i p h.1 (none_from i p (λ k l. h.3 k (omega arith) l (omega (arith, l, h.1)))) h.2)
 
-no_number : (x : ℕ) → ◌≡◌ {A = Option ℕ} (Some x) None → ⊥
-no_number x e = let z : ◌≡◌ {A = ℕ} 0 1 = cc in omega arith
-
 or_none : (o : Option ℕ) (here : Bool) (n : ℕ) → or_here o here n ≡ None → (o ≡ None) × (here ≡ false)
-or_none (Some i) here n e = absurd (no_number i e)
-or_none None true n e = absurd (no_number n e)
+or_none (Some i) here n e = absurd (none-some i (sym e))
+or_none None true n e = absurd (none-some n (sym e))
 or_none None false n e = (refl, refl)
 
 none_below : (n : ℕ) (p : ℕ → Bool) → first_below n p ≡ None → (m : ℕ) → m < n → p m ≡ false

@@ -210,6 +210,11 @@ package_most d i j =
       mul-le-mul d.target.tall.1 d.target.wide.1,
     )
 
+-- a package has few bytes
+pub bytes_few : (d : Drawing) (i j n words : ℕ) → n ≡ package_of d i j → words ≤ 255 → n * words ≤ 267386880
+bytes_few d i j n words e h =
+    let few : n ≤ 1048576 = omega (arith, e, package_most d i j) in omega (arith, mul-le-mul few h)
+
 -- what the table holds of the package of two boards
 module _ (d : Drawing) (i j : ℕ) (h : i < d.target.boards) (k : j < d.target.boards) where
   few_roles : j < 16
