@@ -1,21 +1,18 @@
 -- What the invariants of a drawing say of its overlay.
-use Rattle.std.proofs.Common.{◌≡◌, ℕ, ◌+◌, ◌-◌, ◌*◌, ◌/◌, ◌%◌, ◌<◌, ◌≤◌, ltb, List, [], ◌∷◌, map, get_or, Some, None, sym, ap, ◌∙◌, subst, mul_comm, mul-le-mul, arith}
-use Rattle.std.proofs.lemmas.Nat.{mul-add-lt, div-mul-add, mod-mul-add, div_below, mod_below, div-add-mod'}
-use Rattle.std.proofs.lemmas.Bool.{cond-true, lt-ltb}
+use Rattle.std.proofs.Common.{◌≡◌, ℕ, ◌+◌, ◌-◌, ◌*◌, ◌/◌, ◌%◌, ◌<◌, ◌≤◌, List, map, get_or, sym, ap, ◌∙◌, subst, mul_comm, mul-le-mul, arith}
+use Rattle.std.proofs.lemmas.Nat.{mul-add-lt, div-mul-add, mod-mul-add}
 use Rattle.std.proofs.lemmas.List.{length-map, length-take-le, get_or-map, get_or-take}
 use Rattle.drawings.specs.declared.drawing.Drawing.{Drawing}
 use Rattle.drawing_parts.specs.declared.lines.Line.{Line}
 use Rattle.drawing_parts.specs.declared.lines.Lines.{Lines}
 use Rattle.drawing_parts.specs.Parts.{Counted, Drawable, Named, elements_of, places, used, over, source_rows, source_columns}
 use Rattle.drawings.specs.Cells.{IsCellOf}
-use Rattle.drawings.specs.Drawings.{overlay_of, cells, package_of, LawsOf}
-use Rattle.drawings.specs.Asking.{IsCell, IsCover, board_cause, board_refusal, cell_refusal}
+use Rattle.drawings.specs.Drawings.{overlay_of, package_of, LawsOf}
+use Rattle.drawings.specs.Asking.{IsCell, IsCover}
 use Rattle.drawing_parts.specs.declared.cell.Cell.{Cell}
-use Rattle.faults.specs.declared.cause.Cause.TheVariants.{Beyond, Board}
 use Rattle.layouts.specs.declared.layout.Layout.{Layout}
 use Rattle.layouts.specs.Layouts.{grid_of, row_cuts, column_cuts, blocks_of}
-use Rattle.layouts.specs.Making.{topmost}
-use Rattle.layouts.proofs.Layouts.{sound, column_spans, count as blocks_count, few as blocks_few}
+use Rattle.layouts.proofs.Layouts.{sound, column_spans}
 use Rattle.overlays.specs.declared.operation.Operation.{Operation}
 use Rattle.overlays.specs.declared.operation.Operation.TheVariants.{Identity, Transpose, ConjugateTranspose}
 use Rattle.overlays.specs.Laws.{Lies}
@@ -146,12 +143,6 @@ module _ (op : Operation) (a b : Layout) (rs cs : Lines) (p : Drawable op a b rs
     pub source_in : source_block (over op a b rs cs) (i * cs.spans + j) < blocks_of b
     source_in = lies_at.source.one
 
-    pub target_few : target_block (over op a b rs cs) (i * cs.spans + j) < 1024
-    target_few = omega (arith, target_in, blocks_count a, blocks_few a)
-
-    pub source_few : source_block (over op a b rs cs) (i * cs.spans + j) < 1024
-    source_few = omega (arith, source_in, blocks_count b, blocks_few b)
-
     pub role_few : role (over op a b rs cs) (i * cs.spans + j) < 16
     role_few = omega (arith, role_below a.boards a.rows a.columns (over op a b rs cs) joined (i * cs.spans + j) one, a.counted.1)
 
@@ -173,23 +164,6 @@ laws d =
       by_cells = by_cells n h w o j;
       adds_up = adds_up n h w o j;
     }
-
--- the cell of a number, by its row and column of cells
-module _ (d : Drawing) (k : ℕ) (h : k < cells d) where
-  below : k < d.row_lines.spans * d.column_lines.spans
-  below = omega (arith, h, count d.operation d.target d.source d.row_lines d.column_lines d.drawable)
-
-  pub row_in : k / d.column_lines.spans < d.row_lines.spans
-  row_in = div_below k d.column_lines.spans d.row_lines.spans (omega (arith, d.drawable.column_side.counted.0)) below
-
-  pub column_in : k % d.column_lines.spans < d.column_lines.spans
-  column_in = mod_below k d.column_lines.spans (omega (arith, d.drawable.column_side.counted.0))
-
-  pub same_cell : k / d.column_lines.spans * d.column_lines.spans + k % d.column_lines.spans ≡ k
-  same_cell = div-add-mod' k d.column_lines.spans
-
-  pub asked_cell : cell_refusal d k ≡ None
-  asked_cell = cond-true (ltb k (cells d)) None (Some (Beyond 0)) (lt-ltb k (cells d) h)
 
 -- what the cell in a row and column of cells is to the cell of its number
 module _ (d : Drawing) (k n : ℕ) (e : n ≡ k) where
@@ -214,20 +188,3 @@ package_most d i j =
 pub bytes_few : (d : Drawing) (i j n words : ℕ) → n ≡ package_of d i j → words ≤ 255 → n * words ≤ 267386880
 bytes_few d i j n words e h =
     let few : n ≤ 1048576 = omega (arith, e, package_most d i j) in omega (arith, mul-le-mul few h)
-
--- what the table holds of the package of two boards
-module _ (d : Drawing) (i j : ℕ) (h : i < d.target.boards) (k : j < d.target.boards) where
-  few_roles : j < 16
-  few_roles = omega (arith, k, d.target.counted.1)
-
-  pub asked_boards : board_refusal d i j ≡ None
-  asked_boards =
-      let e : board_cause d i ≡ None = cond-true (ltb i d.target.boards) None (Some (Board i)) (lt-ltb i d.target.boards h) in
-      let f : board_cause d j ≡ None = cond-true (ltb j d.target.boards) None (Some (Board j)) (lt-ltb j d.target.boards k) in
-      ap (λ x. topmost (x ∷ board_cause d j ∷ [])) e ∙ ap (λ x. topmost (x ∷ [])) f
-
-  pub package_held : get_or d.packages (i * 16 + j) 0 ≡ package_of d i j
-  package_held =
-      d.packed (i * 16 + j) (omega (arith, h, few_roles, d.target.counted.1))
-      ∙ (ap (λ x. elements_of d.operation d.target d.source x ((i * 16 + j) % 16)) (div-mul-add i 16 j few_roles)
-      ∙ ap (λ x. elements_of d.operation d.target d.source i x) (mod-mul-add i 16 j few_roles))
