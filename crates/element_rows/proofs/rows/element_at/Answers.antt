@@ -20,26 +20,6 @@ returns-then-index-from g c =
           (omega (arith, short, ap length e ∙ length-append (words_of_row words packed) rest, length-words_of_row words w g.met.E.Element.sized packed, room k (length packed) w l));
     }
 
-pub overflow_mul-at : goal.overflow_mul-at
-overflow_mul-at g c =
-    let h : c.args.index * c.size-size.result + c.size-size.result ≤ length c.args.from.now = inside (length c.args.from.now) c.size-size.result c.args.index (omega (arith, c.if-index-from.false)) in
-    search rules
-
-pub overflow_add-at : goal.overflow_add-at
-overflow_add-at g c =
-    let h : c.args.index * c.size-size.result + c.size-size.result ≤ length c.args.from.now = inside (length c.args.from.now) c.size-size.result c.args.index (omega (arith, c.if-index-from.false)) in
-    search rules
-
-pub offset_bounds-from-at : goal.offset_bounds-from-at
-offset_bounds-from-at g c =
-    let h : c.args.index * c.size-size.result + c.size-size.result ≤ length c.args.from.now = inside (length c.args.from.now) c.size-size.result c.args.index (omega (arith, c.if-index-from.false)) in
-    search rules
-
-pub slice_bounds-read-end : goal.slice_bounds-read-end
-slice_bounds-read-end g c =
-    let h : c.args.index * c.size-size.result + c.size-size.result ≤ length c.args.from.now = inside (length c.args.from.now) c.size-size.result c.args.index (omega (arith, c.if-index-from.false)) in
-    search rules
-
 pub returns : goal.returns
 returns g c =
     let w = g.E.Element.width in
