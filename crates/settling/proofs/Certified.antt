@@ -1,6 +1,6 @@
 -- Plans and assignments are judged alike, and the bills of certified plans are the sums of the recorded prices.
-use Rattle.std.proofs.Common.{◌≡◌, ℕ, ◌<◌, Bool, eqb, List, Some, None, Option, sym, ap, ◌∙◌, subst, inl, inr, arith}
-use Rattle.std.proofs.lemmas.Bool.{cases_Bool, cond-false, eqb-true}
+use Rattle.std.proofs.Common.{◌≡◌, ℕ, ◌<◌, Bool, List, None, sym, ap, ◌∙◌, subst, arith}
+use Rattle.std.proofs.lemmas.Bool.Decides.{nat_tests}
 use Rattle.std.specs.Option.{option_map, option_or}
 use Rattle.assignment.proofs.Proposals.{to_proposal}
 use Rattle.assignment.specs.Plans as plans
@@ -13,9 +13,7 @@ use Rattle.assignment_laws.proofs.Totals.{total_same}
 use Rattle.assignment_laws.specs.Judging.{Certified, wrong_role}
 use Rattle.assignment_laws.specs.Namings.{total}
 use Rattle.drawings.specs.declared.drawing.Drawing.{Drawing}
-use Rattle.faults.specs.declared.cause.Cause.{Cause}
 use Rattle.faults.specs.declared.cause.Cause.TheVariants as cause
-use Rattle.faults.specs.declared.cause.Cause.TheVariants.{Count}
 use Rattle.plans.specs.Plans.{line_of}
 use Rattle.plans.specs.declared.plan.Plan.{Plan}
 use Rattle.settling.specs.Prices.{Costed, cost_of, count_refusal, question}
@@ -23,16 +21,9 @@ use Rattle.settling.specs.Records.{Summed, name_in, price_at, proposed}
 use Rattle.settling.specs.Settling.{plan_refusal}
 use Rattle.tariffs.specs.declared.question.Question.{Question}
 
-some_none : (c : Cause) → ◌≡◌ {A = Option Cause} (Some c) None → ⊥
-some_none c e = let z : ◌≡◌ {A = ℕ} 0 1 = cc in omega arith
-
 -- what is not refused has the drawing's boards
 pub fits : (d : Drawing) (n : ℕ) → count_refusal d n ≡ None → n ≡ d.target.boards
-fits d n e =
-    elim (cases_Bool (eqb n d.target.boards)) [
-      | inl t ↦ eqb-true n d.target.boards t
-      | inr f ↦ absurd (some_none (Count n) (sym (cond-false (eqb n d.target.boards) None (Some (Count n)) f) ∙ e))
-    ]
+fits d n e = grind (arith, nat_tests)
 
 -- an assignment and a plan that say the same, by a table of the costs and by the costs
 module _ (price : Question → ℕ) (d : Drawing) (w : ℕ) (t : Bool) (c : Costs) (costed : Costed price d w t c) (a : Assignment) (p : Plan)
