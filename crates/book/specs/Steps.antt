@@ -3,7 +3,7 @@
 --     SettleStep one w n price before r after      a least plan by the prices of a tariff for n boards
 --     AdoptStep one w n price p before r after     the proposed plan p, if it is certified by these prices
 -- The elements have w words each, and their one is `one`.
-use Rattle.std.specs.Prelude.{◌≡◌, ℕ, Bool, Some, None, Option, Result}
+use Rattle.std.specs.Prelude.{◌≡◌, ℕ, Bool, Some, None, Option, Ok, Err, Result, MatchResult}
 use Rattle.std.specs.Option.{option_map}
 use Rattle.book.specs.Refusals.{Told, draw_refusal, own, state_refusal, turn_of}
 use Rattle.book.specs.declared.fault.BookFault.{BookFault}
@@ -13,6 +13,7 @@ use Rattle.book.specs.declared.stage.Turn.{Turn}
 use Rattle.drawings.specs.Making.{Made}
 use Rattle.faults.specs.declared.fault.Call.{Call}
 use Rattle.faults.specs.declared.fault.Call.TheVariants.{Draw, Settle, Adopt}
+use Rattle.faults.specs.declared.fault.Fault.{Fault}
 use Rattle.layouts.specs.declared.layout.Layout.{Layout}
 use Rattle.plans.specs.declared.plan.Plan.{Plan}
 use Rattle.settling.specs.Prices.{Marked, count_refusal}
@@ -39,6 +40,11 @@ pub record SettledBy {E : Type 0} (one : E) (w : ℕ) (price : Question → ℕ)
 abbrev pub FromTurn : {E : Type 0} → Call → Stage E → Option (Turn E) → Result (Unit {0}) BookFault → Stage E → (Turn E → Type 0) → Type 0
 FromTurn call before None r after step = Told call (Some (state_refusal call before)) r (λ _. Unit {0}) (after ≡ before)
 FromTurn call before (Some turn) r after step = step turn
+
+-- what is found for a turn is taken, or its fault is carried and the stage is as before
+abbrev pub Taken : {E : Type 0} → Call → Turn E → Result Settlement Fault → Stage E → Result (Unit {0}) BookFault → Stage E → Type 0
+Taken call turn found before r after =
+    MatchResult found (λ s. (r ≡ Ok tt) × (after ≡ Settled turn s)) (λ f. (r ≡ Err (record { call = call; fault = f })) × (after ≡ before))
 
 abbrev pub SettleTurn : {E : Type 0} → E → ℕ → ℕ → (Question → ℕ) → Stage E → Result (Unit {0}) BookFault → Stage E → Turn E → Type 0
 SettleTurn one w n price before r after turn =

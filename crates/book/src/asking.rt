@@ -1,12 +1,11 @@
 // Questions to a book.
-ghost use Rattle.std.specs.Prelude.{◌≡◌};
+ghost use Rattle.std.specs.Prelude.{◌≡◌, Some};
 ghost use Rattle.book.specs.Asking.{Covered, Planned, Priced, Sized, bytes_refusal, cover_refusal, drawing_of, plan_refusal, price_refusal};
 ghost use Rattle.book.specs.Refusals.{Told, settlement_of};
 ghost use Rattle.std.specs.Option.{option_map};
 
 use crate::book::Book;
 use crate::fault::BookFault;
-use crate::stage::Stage;
 use drawings::Drawing;
 use elements::Element;
 use faults::Call;
@@ -18,64 +17,44 @@ impl<E: Element> Book<E> {
     pub fn drawing(&self) -> Option<&Drawing>
         ensures { option_map (λ d. d.now) result ≡ drawing_of self.now.stage }
     {
-        match &self.stage {
-            Stage::Empty => None,
-            Stage::Drawn(turn) => Some(&turn.drawing),
-            Stage::Settled(turn, _) => Some(&turn.drawing),
-        }
+        self.stage.turn().map(|turn| &turn.drawing)
     }
 
-    // What is settled, if anything is.
-    fn settlement(&self) -> Option<&Settlement>
-        ensures { option_map (λ s. s.now) result ≡ settlement_of self.now.stage }
+    // What is settled, for a question that needs it.
+    fn settled(&self) -> Result<&Settlement, BookFault>
+        ensures { Told Call.Ask (plan_refusal self.now.stage) result (λ s. settlement_of self.now.stage ≡ Some s.now) (Unit {0}) }
     {
-        match &self.stage {
-            Stage::Empty => None,
-            Stage::Drawn(_) => None,
-            Stage::Settled(_, settlement) => Some(settlement),
-        }
+        self.stage
+            .settlement()
+            .ok_or_else(|| self.forbids(Call::Ask))
     }
 
     // The blocks of the target and of the source that cover the cell.
     pub fn cover(&self, cell: usize) -> Result<(usize, usize), BookFault>
         ensures { Told Call.Cover (cover_refusal self.now.stage cell) result (λ v. Covered self.now.stage cell v.0 v.1) (Unit {0}) }
     {
-        let Some(drawing) = self.drawing() else {
-            return Err(self.forbids(Call::Cover));
-        };
-        match drawing.cover(cell) {
-            Ok(blocks) => Ok(blocks),
-            Err(fault) => Err(BookFault {
-                call: Call::Cover,
-                fault,
-            }),
-        }
+        self.turn(Call::Cover)?
+            .drawing
+            .cover(cell)
+            .map_err(|fault| BookFault::new(Call::Cover, fault))
     }
 
     // The bytes of the sender's package for the role.
     pub fn package_bytes(&self, sender: usize, role: usize) -> Result<usize, BookFault>
         ensures { Told Call.Ask (bytes_refusal self.now.stage sender role) result (λ v. Sized self.now.stage E.width sender role v) (Unit {0}) }
     {
-        let Some(drawing) = self.drawing() else {
-            return Err(self.forbids(Call::Ask));
-        };
-        match drawing.package_bytes(sender, role, E::size() as u8) {
-            Ok(bytes) => Ok(bytes),
-            Err(fault) => Err(BookFault {
-                call: Call::Ask,
-                fault,
-            }),
-        }
+        self.turn(Call::Ask)?
+            .drawing
+            .package_bytes(sender, role, E::size() as u8)
+            .map_err(|fault| BookFault::new(Call::Ask, fault))
     }
 
     // The plan that was settled or adopted last.
     pub fn plan(&self) -> Result<Plan, BookFault>
         ensures { Told Call.Ask (plan_refusal self.now.stage) result (λ p. Planned self.now.stage p) (Unit {0}) }
     {
-        match self.settlement() {
-            Some(settlement) => Ok(settlement.plan),
-            None => Err(self.forbids(Call::Ask)),
-        }
+        let settlement = self.settled()?;
+        Ok(settlement.plan)
     }
 
     // The price of the sender's package for the role, as it was when the plan was settled or adopted.
@@ -83,9 +62,7 @@ impl<E: Element> Book<E> {
         ensures { Told Call.Ask (price_refusal self.now.stage sender role) result (λ v. Priced self.now.stage sender role v) (Unit {0}) }
     {
         self.package_bytes(sender, role)?;
-        match self.settlement() {
-            Some(settlement) => Ok(settlement.prices[sender * 16 + role]),
-            None => Err(self.forbids(Call::Ask)),
-        }
+        let settlement = self.settled()?;
+        Ok(settlement.price(sender, role))
     }
 }

@@ -15,3 +15,29 @@ pub enum Stage<E> {
     Drawn(Turn<E>),
     Settled(Turn<E>, Settlement),
 }
+
+impl<E> Stage<E> {
+    ghost use Rattle.std.specs.Option.{option_map};
+    ghost use Rattle.std.specs.Prelude.{◌≡◌};
+    ghost use Rattle.book.specs.Refusals.{settlement_of, turn_of};
+
+    // What is drawn, if anything is.
+    pub(crate) fn turn(&self) -> Option<&Turn<E>>
+        ensures { option_map (λ turn. turn.now) result ≡ turn_of self.now }
+    {
+        match self {
+            Stage::Empty => None,
+            Stage::Drawn(turn) | Stage::Settled(turn, _) => Some(turn),
+        }
+    }
+
+    // What is settled, if anything is.
+    pub(crate) fn settlement(&self) -> Option<&Settlement>
+        ensures { option_map (λ s. s.now) result ≡ settlement_of self.now }
+    {
+        match self {
+            Stage::Empty | Stage::Drawn(_) => None,
+            Stage::Settled(_, settlement) => Some(settlement),
+        }
+    }
+}
