@@ -12,18 +12,11 @@ use tariffs::Plain;
 
 // What the layer that refused says.
 fn whole<T: Drop>(answer: Result<T, BookFault>) -> Result<T, Fault> {
-    match answer {
-        Ok(value) => Ok(value),
-        Err(refusal) => Err(refusal.fault),
-    }
+    answer.map_err(|refusal| refusal.fault)
 }
 
 fn own(call: Call, cause: Cause) -> Fault {
-    Fault {
-        layer: Layer::Book,
-        call,
-        cause,
-    }
+    Fault::new(Layer::Book, call, cause)
 }
 
 fn line(board: usize, u: i64, v: i64) -> Line {
@@ -39,10 +32,11 @@ fn worked(alpha: u32) -> Result<Book<Word>, Fault> {
     Ok(book)
 }
 
-fn two_lines(bill: u64, first: Line, second: Line) -> Result<Plan, Fault> {
-    let mut plan = Plan::new(2, bill);
-    plan.set_line(0, first)?;
-    plan.set_line(1, second)?;
+fn proposal(bill: u64, lines: [Line; 2]) -> Result<Plan, Fault> {
+    let mut plan = Plan::new(lines.len(), bill);
+    for (role, line) in lines.into_iter().enumerate() {
+        plan.set_line(role, line)?;
+    }
     Ok(plan)
 }
 
@@ -52,12 +46,12 @@ fn the_worked_example_exchanges_names_for_20(rt: HostRuntime) -> Result<(), Fail
     whole(book.settle(&Plain::new(2)?))?;
     let plan = whole(book.plan())?;
     assert_eq!(rt; plan.bill, 20);
-    assert_eq!(rt; plan.line(0)?.board, 1);
-    assert_eq!(rt; plan.line(1)?.board, 0);
-    assert_eq!(rt; whole(book.package_price(0, 0))?, 12);
-    assert_eq!(rt; whole(book.package_price(1, 0))?, 0);
-    assert_eq!(rt; whole(book.package_price(0, 1))?, 0);
-    assert_eq!(rt; whole(book.package_price(1, 1))?, 8);
+    for (role, board) in [1, 0].into_iter().enumerate() {
+        assert_eq!(rt; plan.line(role)?.board, board);
+    }
+    for (sender, role, price) in [(0, 0, 12), (1, 0, 0), (0, 1, 0), (1, 1, 8)] {
+        assert_eq!(rt; whole(book.package_price(sender, role))?, price);
+    }
     assert_eq!(rt; whole(book.package_bytes(0, 1))?, 24);
     assert_eq!(rt; whole(book.cover(2))?, (1, 0));
     Ok(())
@@ -83,24 +77,21 @@ fn a_transformed_turn_pays_the_surcharge(rt: HostRuntime) -> Result<(), Fail> {
 fn a_proposed_plan_is_taken_or_leaves_the_earlier_one(rt: HostRuntime) -> Result<(), Fail> {
     let tariff = Plain::new(2)?;
     let mut book = worked(1)?;
-    let good = two_lines(20, line(1, 4, 0), line(0, 8, 8))?;
+    let good = proposal(20, [line(1, 4, 0), line(0, 8, 8)])?;
     whole(book.adopt(&tariff, &good))?;
     assert_eq!(rt; whole(book.plan())?.line(1)?, line(0, 8, 8));
-    let unfair = two_lines(20, line(1, 5, 0), line(0, 8, 7))?;
-    assert_eq!(rt;
-        whole(book.adopt(&tariff, &unfair)),
-        Err(own(Call::Adopt, Cause::Plan { role: 0 }))
-    );
-    let twice = two_lines(20, line(1, 4, 0), line(1, 8, 8))?;
-    assert_eq!(rt;
-        whole(book.adopt(&tariff, &twice)),
-        Err(own(Call::Adopt, Cause::Plan { role: 1 }))
-    );
-    let cheap = two_lines(19, line(1, 4, 0), line(0, 8, 8))?;
-    assert_eq!(rt;
-        whole(book.adopt(&tariff, &cheap)),
-        Err(own(Call::Adopt, Cause::Plan { role: 2 }))
-    );
+    // Prices that are unfair, a board that is named twice, and a bill that is too low.
+    let refused = [
+        (20, [line(1, 5, 0), line(0, 8, 7)]),
+        (20, [line(1, 4, 0), line(1, 8, 8)]),
+        (19, [line(1, 4, 0), line(0, 8, 8)]),
+    ];
+    for (role, (bill, lines)) in refused.into_iter().enumerate() {
+        assert_eq!(rt;
+            whole(book.adopt(&tariff, &proposal(bill, lines)?)),
+            Err(own(Call::Adopt, Cause::Plan { role }))
+        );
+    }
     assert_eq!(rt;
         whole(book.adopt(&tariff, &Plan::new(3, 0))),
         Err(own(Call::Adopt, Cause::Count { number: 3 }))
@@ -156,8 +147,8 @@ fn names_go_from_roles_to_boards(rt: HostRuntime) -> Result<(), Fail> {
     whole(book.settle(&Plain::new(3)?))?;
     let plan = whole(book.plan())?;
     assert_eq!(rt; plan.bill, 0);
-    assert_eq!(rt; plan.line(0)?.board, 2);
-    assert_eq!(rt; plan.line(1)?.board, 0);
-    assert_eq!(rt; plan.line(2)?.board, 1);
+    for (role, board) in [2, 0, 1].into_iter().enumerate() {
+        assert_eq!(rt; plan.line(role)?.board, board);
+    }
     Ok(())
 }
