@@ -1,13 +1,13 @@
 -- The numbers of the worked example, by computing them.
-use Rattle.std.proofs.Common.{◌≡◌, ℕ, zero, suc, ◌-◌, ◌<◌, false, cond, ◌&&◌, eqb, ltb, leb, [], ◌∷◌, pos, Some, None, Option, sym, refl, ap, ◌∙◌, arith}
-use Rattle.std.specs.Option.{option_map, option_or}
+use Rattle.std.proofs.Common.{◌≡◌, ℕ, zero, suc, ◌-◌, ◌<◌, false, cond, ◌&&◌, eqb, ltb, leb, [], ◌∷◌, pos, Some, None, Option, refl, ap, ◌∙◌, arith}
+use Rattle.std.specs.Option.{option_map}
 use Rattle.assignment_laws.proofs.Same.{wrong_same}
 use Rattle.assignment_laws.proofs.Totals.{total_same}
 use Rattle.assignment_laws.specs.Judging.{Proposal, wrong_role}
 use Rattle.assignment_laws.specs.Namings.{total}
 use Rattle.drawings.specs.Drawings.{package_of}
 use Rattle.drawings.specs.declared.drawing.Drawing.{Drawing}
-use Rattle.drawing_parts.specs.Refusals.{first_below, fit_cause, share_cause, size_cause}
+use Rattle.drawing_parts.specs.Refusals.{first_below, fit_cause, share_cause}
 use Rattle.drawings.specs.Making.{make_refusal}
 use Rattle.faults.specs.declared.cause.Bank.{Bank}
 use Rattle.faults.specs.declared.cause.Bank.TheVariants as bank
@@ -32,18 +32,11 @@ use Rattle.tariffs.specs.Plains.{plain_price}
 use Rattle.worked.specs.Example.{Example, Says, Source, Target, Worked, adoption, cost, line}
 
 -- the letter R names row-major order, and N the identity
-some_same : {A : Type 0} (x y : A) → ◌≡◌ {A = Option A} (Some x) (Some y) → x ≡ y
-some_same x y e = ap (λ o. or_else o x) e
-  where
-    or_else : {A : Type 0} → Option A → A → A
-    or_else None z = z
-    or_else (Some w) z = w
-
 target_grid : (a : Layout) → Target a → grid_of a ≡ example_target
-target_grid a t = t.1.lists ∙ ap (grid (0 ∷ 1 ∷ 3 ∷ []) (0 ∷ 4 ∷ []) (0 ∷ 1 ∷ [])) (sym (some_same RowMajor a.order t.0))
+target_grid a t = let read : a.order ≡ RowMajor = cc t.0 in t.1.lists ∙ ap (grid (0 ∷ 1 ∷ 3 ∷ []) (0 ∷ 4 ∷ []) (0 ∷ 1 ∷ [])) read
 
 source_grid : (b : Layout) → Source b → grid_of b ≡ example_source
-source_grid b t = t.1.lists ∙ ap (grid (0 ∷ 3 ∷ []) (0 ∷ 3 ∷ 4 ∷ []) (0 ∷ 1 ∷ [])) (sym (some_same RowMajor b.order t.0))
+source_grid b t = let read : b.order ≡ RowMajor = cc t.0 in t.1.lists ∙ ap (grid (0 ∷ 3 ∷ []) (0 ∷ 3 ∷ 4 ∷ []) (0 ∷ 1 ∷ [])) read
 
 module _ (d : Drawing) (e : Example d) where
   two : d.target.boards ≡ 2
@@ -51,7 +44,8 @@ module _ (d : Drawing) (e : Example d) where
 
   pack : (i j : ℕ) → package_of d i j ≡ elements Identity example_target example_source 3 4 i j
   pack i j =
-      ap (λ op. elements op (grid_of d.target) (grid_of d.source) d.target.rows d.target.columns i j) (sym (some_same Identity d.operation e.made.0))
+      let read : d.operation ≡ Identity = cc e.made.0 in
+      ap (λ op. elements op (grid_of d.target) (grid_of d.source) d.target.rows d.target.columns i j) read
       ∙ ap (λ g. elements Identity g (grid_of d.source) d.target.rows d.target.columns i j) (target_grid d.target e.target)
       ∙ ap (λ g. elements Identity example_target g d.target.rows d.target.columns i j) (source_grid d.source e.source)
       ∙ ap (λ h. elements Identity example_target example_source h d.target.columns i j) e.target.1.rows
@@ -96,10 +90,7 @@ module _ (d : Drawing) (p : plans.Plan) (b : ℕ) (l m : Line) (e : Example d) (
   counts n h = rw (h, two d e) refl
 
   proposal : adoption d p ≡ option_map cause.Plan (wrong_role example_cost 2 (paired b l m))
-  proposal =
-      ap (λ o. option_or o (option_or (count_refusal d p.boards) (option_map cause.Plan (wrong_role (cost d) d.target.boards (proposed p))))) (counts 2 refl)
-      ∙ ap (λ o. option_or o (option_map cause.Plan (wrong_role (cost d) d.target.boards (proposed p)))) (counts p.boards s.boards)
-      ∙ ap (option_map cause.Plan) judged
+  proposal = rw (counts 2 refl, counts p.boards s.boards, judged) refl
 
 -- whether n owners' blocks in a grid exceed a share
 abbrev held_against : Bank → ℕ → ℕ → Grid → Option Cause
@@ -109,18 +100,9 @@ held_against which share n g =
 shared : (which : Bank) (share : ℕ) (l : Layout) (g : Grid) → l.boards ≡ 2 → grid_of l ≡ g → share_cause which l share ≡ held_against which share 2 g
 shared which share l g n e = ap (λ k. held_against which share k (grid_of l)) n ∙ ap (held_against which share 2) e
 
-abbrev fit : ℕ → ℕ → ℕ → ℕ → ℕ → ℕ → Option Cause
-fit h w n h' w' n' = topmost (size_cause h h' ∷ size_cause w w' ∷ size_cause n n' ∷ [])
-
 module _ (a b : Layout) (s : Target a) (t : Source b) where
   fitted : fit_cause Identity a b ≡ None
-  fitted =
-      ap (λ k. fit k a.columns a.boards b.rows b.columns b.boards) s.1.rows
-      ∙ ap (λ k. fit 3 k a.boards b.rows b.columns b.boards) s.1.columns
-      ∙ ap (λ k. fit 3 4 k b.rows b.columns b.boards) s.1.boards
-      ∙ ap (λ k. fit 3 4 2 k b.columns b.boards) t.1.rows
-      ∙ ap (λ k. fit 3 4 2 3 k b.boards) t.1.columns
-      ∙ ap (fit 3 4 2 3 4) t.1.boards
+  fitted = rw (s.1.rows, s.1.columns, s.1.boards, t.1.rows, t.1.columns, t.1.boards) refl
 
   refusal : (share : ℕ) → make_refusal 78 a b 9 share ≡ topmost (held_against bank.Target share 2 example_target ∷ [])
   refusal share =
