@@ -2,6 +2,7 @@
 use crate::end::End;
 use crate::files::{read, read_job};
 use jobplans::{Planned, Refusal, Report, Sheet, adopted, settled};
+use std::fmt;
 
 const HELP: &str = "\
 Plans the moving of a matrix between two layouts, or checks a saved plan.
@@ -18,57 +19,41 @@ The status is 0 where a plan was made or taken, and else 1.
 
 const VERSION: &str = "0.1.0";
 
-fn settle(rt: &HostRuntime, file: &str) -> Result<Planned, End> {
-    let job = read_job(rt, file)?;
-    match settled(&job) {
-        Ok(planned) => Ok(planned),
-        Err(refusal) => Err(refuse(rt, refusal)),
-    }
+fn show<T: fmt::Display>(rt: &HostRuntime, what: &T) -> Result<(), End> {
+    print!(rt; "{what}")?;
+    Ok(())
 }
 
-// Tells a refusal.
 fn refuse(rt: &HostRuntime, refusal: Refusal) -> End {
-    match println!(rt; "{refusal}") {
-        Ok(()) => End::Told,
-        Err(error) => End::Broken(error),
-    }
+    End::told(println!(rt; "{refusal}"))
+}
+
+fn settle(rt: &HostRuntime, file: &str) -> Result<Planned, End> {
+    let job = read_job(rt, file)?;
+    settled(&job).map_err(|refusal| refuse(rt, refusal))
 }
 
 fn plan(rt: &HostRuntime, file: &str) -> Result<(), End> {
     let planned = settle(rt, file)?;
-    let report = Report(&planned);
-    print!(rt; "{report}")?;
-    Ok(())
+    show(rt, &Report(&planned))
 }
 
 fn sheet(rt: &HostRuntime, file: &str) -> Result<(), End> {
     let planned = settle(rt, file)?;
-    let sheet = Sheet(&planned.plan);
-    print!(rt; "{sheet}")?;
-    Ok(())
+    show(rt, &Sheet(&planned.plan))
 }
 
 fn check(rt: &HostRuntime, file: &str, sheet_file: &str) -> Result<(), End> {
     let job = read_job(rt, file)?;
     let sheet = read(rt, sheet_file)?;
-    match adopted(&job, &sheet) {
-        Ok(planned) => {
-            let bill = planned.bill;
-            println!(rt; "taken, bill {bill}")?;
-            Ok(())
-        }
-        Err(refusal) => Err(refuse(rt, refusal)),
-    }
+    let planned = adopted(&job, &sheet).map_err(|refusal| refuse(rt, refusal))?;
+    let bill = planned.bill;
+    println!(rt; "taken, bill {bill}")?;
+    Ok(())
 }
 
 fn misused(rt: &HostRuntime, wrong: &str) -> Result<(), End> {
-    eprintln!(rt; "cornerturn: {wrong}")?;
-    Err(End::Told)
-}
-
-fn show_help(rt: &HostRuntime) -> Result<(), End> {
-    print!(rt; "{HELP}")?;
-    Ok(())
+    Err(End::told(eprintln!(rt; "cornerturn: {wrong}")))
 }
 
 fn show_version(rt: &HostRuntime) -> Result<(), End> {
@@ -78,7 +63,7 @@ fn show_version(rt: &HostRuntime) -> Result<(), End> {
 
 pub fn run(rt: &HostRuntime, words: &[&str]) -> Result<(), End> {
     match words {
-        ["--help"] => show_help(rt),
+        ["--help"] => show(rt, &HELP),
         ["--version"] => show_version(rt),
         ["plan", "--sheet"] => misused(rt, "a job is due"),
         ["plan", job] => plan(rt, job),

@@ -1,5 +1,5 @@
 // How the program ends without success, with status 1.
-use std::alloc::{AllocError, AllocFailed};
+use std::alloc::AllocError;
 use std::io;
 
 #[derive(Drop)]
@@ -10,6 +10,16 @@ pub enum End {
     Broken(io::Error),
 }
 
+impl End {
+    // The end once what is wrong has been told, or could not be.
+    pub fn told(telling: io::Result<()>) -> End {
+        match telling {
+            Ok(()) => End::Told,
+            Err(error) => End::Broken(error),
+        }
+    }
+}
+
 impl From<io::Error> for End {
     fn from(error: io::Error) -> End {
         End::Broken(error)
@@ -18,12 +28,6 @@ impl From<io::Error> for End {
 
 impl From<AllocError> for End {
     fn from(_e: AllocError) -> End {
-        End::NoMemory
-    }
-}
-
-impl<T: Drop> From<AllocFailed<T>> for End {
-    fn from(_e: AllocFailed<T>) -> End {
         End::NoMemory
     }
 }

@@ -1,6 +1,6 @@
 // Reading jobs and sheets.
 use crate::end::End;
-use jobs::{Job, parse};
+use jobs::{Job, Mistake, parse};
 use std::io::Read;
 use std::{fs, io};
 
@@ -15,24 +15,12 @@ fn read_all(rt: &HostRuntime, file: &str) -> io::Result<Vec<u8>> {
 
 // All of a file, or of standard input for `-`.
 pub fn read(rt: &HostRuntime, file: &str) -> Result<Vec<u8>, End> {
-    match read_all(rt, file) {
-        Ok(bytes) => Ok(bytes),
-        Err(_) => {
-            eprintln!(rt; "cornerturn: {file}: cannot be read")?;
-            Err(End::Told)
-        }
-    }
+    read_all(rt, file).map_err(|_| End::told(eprintln!(rt; "cornerturn: {file}: cannot be read")))
 }
 
 pub fn read_job(rt: &HostRuntime, file: &str) -> Result<Job, End> {
     let text = read(rt, file)?;
-    match parse(rt.alloc(), &text) {
-        Ok(job) => Ok(job),
-        Err(mistake) => {
-            let line = mistake.line;
-            let wrong = mistake.wrong;
-            eprintln!(rt; "cornerturn: {file}:{line}: {wrong}")?;
-            Err(End::Told)
-        }
-    }
+    parse(rt.alloc(), &text).map_err(|Mistake { line, wrong, .. }| {
+        End::told(eprintln!(rt; "cornerturn: {file}:{line}: {wrong}"))
+    })
 }

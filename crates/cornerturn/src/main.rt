@@ -12,15 +12,9 @@ use std::process::ExitCode;
 
 // Does what the arguments ask for.
 fn start(rt: &HostRuntime) -> Result<(), End> {
-    let mut words = Vec::new(rt.alloc());
-    for word in env::args(rt)?.skip(1) {
-        words.push(word)?;
-    }
-    let mut names = Vec::new(rt.alloc());
-    for word in words.iter() {
-        names.push(word.as_str())?;
-    }
-    run(rt, names.as_slice())
+    let words: Vec<String> = env::args(rt)?.skip(1).collect(rt.alloc())?;
+    let words: Vec<&str> = words.iter().map(|word| word.as_str()).collect(rt.alloc())?;
+    run(rt, &words)
 }
 
 // An `Err` that `main` returned would be printed, and what is wrong has been told.

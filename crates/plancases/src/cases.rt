@@ -1,4 +1,7 @@
 // The row of cases.
+ghost use Rattle.std.specs.Prelude.{◌<◌, length, IfSome};
+ghost use Rattle.std.specs.Iterator.{at_most};
+
 use std::str::from_utf8;
 
 #[derive(Clone, Copy)]
@@ -9,29 +12,29 @@ pub enum Case<'a> {
 }
 
 // So many bytes, and what follows them and a line feed.
-fn part(bytes: &[u8], len: usize) -> Option<(&[u8], &[u8])> {
-    if len >= bytes.len() || bytes[len] != b'\n' {
-        return None;
+fn part(bytes: &[u8], len: usize) -> Option<(&[u8], &[u8])>
+    ensures shorter { IfSome result (λ parts. length parts.1.now < length bytes.now) }
+{
+    let (front, rest) = bytes.split_at_checked(len)?;
+    match rest {
+        [b'\n', after @ ..] => Some((front, after)),
+        _ => None,
     }
-    Some((&bytes[0..len], &bytes[len + 1..]))
 }
 
 // The first line, and what follows it.
-fn head(bytes: &[u8]) -> Option<(&str, &[u8])> {
-    for i in 0..bytes.len() {
-        if bytes[i] == b'\n' {
-            let (line, rest) = part(bytes, i)?;
-            let Ok(text) = from_utf8(line) else {
-                return None;
-            };
-            return Some((text, rest));
-        }
-    }
-    None
+fn head(bytes: &[u8]) -> Option<(&str, &[u8])>
+    ensures shorter { IfSome result (λ parts. length parts.1.now < length bytes.now) }
+{
+    let len = bytes.iter().position(|&byte| byte == b'\n')?;
+    let (line, rest) = part(bytes, len)?;
+    Some((from_utf8(line).ok()?, rest))
 }
 
 // The first case, and those that follow it.
-pub fn next_case(bytes: &[u8]) -> Option<(Case<'_>, &[u8])> {
+fn next_case(bytes: &[u8]) -> Option<(Case<'_>, &[u8])>
+    ensures shorter { IfSome result (λ parts. length parts.1.now < length bytes.now) }
+{
     let (line, rest) = head(bytes)?;
     let mut words = line.split(' ');
     let name = words.next()?;
@@ -51,5 +54,31 @@ pub fn next_case(bytes: &[u8]) -> Option<(Case<'_>, &[u8])> {
             Some((Case::Check { job, sheet }, after))
         }
         _ => None,
+    }
+}
+
+// Input that is no row of cases.
+#[derive(Clone, Copy)]
+pub struct Broken;
+
+// The cases of a row.
+#[derive(Clone, Copy)]
+pub struct Cases<'a>(pub &'a [u8]);
+
+impl<'a> Iterator for Cases<'a> {
+    type Item = Result<Case<'a>, Broken>;
+
+    ghost remaining = { λ s. at_most (length s.0.now) };
+
+    fn next(&mut self) -> Option<Result<Case<'a>, Broken>> {
+        if self.0.is_empty() {
+            return None;
+        }
+        let Some((case, after)) = next_case(self.0) else {
+            self.0 = &[];
+            return Some(Err(Broken));
+        };
+        self.0 = after;
+        Some(Ok(case))
     }
 }

@@ -6,23 +6,18 @@ mod cases;
 
 use answers::answer;
 use anyhow::anyhow;
-use cases::{Case, next_case};
+use cases::{Case, Cases};
 use std::io::Read;
 
 fn run(rt: &HostRuntime) -> anyhow::Result<()> {
     let mut input = Vec::new(rt.alloc());
     rt.stdin().read_to_end(&mut input)?;
-    let mut rest = input.as_slice();
-    for number in 0..u64::MAX {
-        if rest.is_empty() {
-            break;
-        }
-        let Some((case, after)) = next_case(rest) else {
+    for (number, case) in Cases(&input).enumerate() {
+        let Ok(case) = case else {
             return Err(anyhow!("plancases: the input is no row of cases"));
         };
         println!(rt; "case {number}")?;
         answer(rt, case)?;
-        rest = after;
     }
     Ok(())
 }
