@@ -1,25 +1,15 @@
 // The checks of what a layout is to be made of.
 ghost use Rattle.std.specs.Prelude.{◌≡◌, ◌&&◌, None, Some, cond, nat_le};
 ghost use Rattle.faults.specs.Checks.{Checks};
-ghost use Rattle.layout_parts.specs.Refusals.{boards_cause, letter_cause, order_of, owners_cause, size_cause, splits_cause};
+ghost use Rattle.layout_parts.specs.Refusals.{boards_cause, owners_cause, size_cause, splits_cause};
 
 use crate::parts::BOARDS;
 use faults::{Cause, Side};
-use splits::Order;
 use splits::cuts::first_wrong_split;
 use splits::owners::first_wrong_owner;
 
 // The most rows or columns.
 const SIZE: usize = 1024;
-
-// The order that the letter names.
-pub(crate) fn order_named(letter: char) -> Result<Order, Cause>
-    ensures { Checks (letter_cause letter) result (λ o. order_of letter ≡ Some o) }
-{
-    Order::try_from(letter).map_err(|unknown| Cause::Letter {
-        code: unknown.0 as u32,
-    })
-}
 
 // Refuses a count that is not from 1 to the most.
 fn check_count(count: usize, most: usize, cause: Cause) -> Result<(), Cause>

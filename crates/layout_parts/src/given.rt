@@ -4,7 +4,7 @@ ghost use Rattle.faults.specs.Checks.{Checks};
 ghost use Rattle.layout_parts.specs.Buildable.{Buildable};
 ghost use Rattle.layout_parts.specs.Refusals.{frame_refusal, make_refusal, order_of};
 
-use crate::causes::{check_boards, check_owners, check_size, check_splits, order_named};
+use crate::causes::{check_boards, check_owners, check_size, check_splits};
 use faults::{Cause, Side};
 use splits::Order;
 
@@ -33,7 +33,7 @@ impl<'a> Given<'a> {
     fn check_frame(self) -> Result<Order, Cause>
         ensures { Checks (frame_refusal self.entry.letter self.entry.boards self.entry.rows self.entry.columns self.entry.row_splits.now self.entry.column_splits.now) result (λ o. order_of self.entry.letter ≡ Some o) }
     {
-        let order = order_named(self.letter)?;
+        let order = Order::try_from(self.letter)?;
         check_boards(self.boards)?;
         check_size(self.rows)?;
         check_size(self.columns)?;

@@ -2,18 +2,21 @@
 ghost use Rattle.std.specs.Prelude.{◌≡◌};
 ghost use Rattle.splits.specs.Orders.{IsLetterOf, IsOrderOf};
 
-use crate::order::{Order, UnknownLetter};
+use crate::order::Order;
+use faults::Cause;
 
 impl TryFrom<char> for Order {
-    type Error = UnknownLetter;
+    type Error = Cause;
 
     ghost try_from_gives = { IsOrderOf };
 
-    fn try_from(letter: char) -> Result<Order, UnknownLetter> {
+    fn try_from(letter: char) -> Result<Order, Cause> {
         match letter {
             'R' => Ok(Order::RowMajor),
             'C' => Ok(Order::ColumnMajor),
-            _ => Err(UnknownLetter(letter)),
+            _ => Err(Cause::Letter {
+                code: letter as u32,
+            }),
         }
     }
 }

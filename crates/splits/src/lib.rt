@@ -9,4 +9,4 @@ pub mod lines;
 pub mod order;
 pub mod owners;
 
-pub use order::{Order, UnknownLetter};
+pub use order::Order;

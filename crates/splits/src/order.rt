@@ -4,7 +4,3 @@ pub enum Order {
     RowMajor,
     ColumnMajor,
 }
-
-// A letter that names no order.
-#[derive(Clone, Copy, PartialEq, Eq, Debug)]
-pub struct UnknownLetter(pub char);
