@@ -63,6 +63,6 @@ impl<E: Element> Book<E> {
     {
         self.package_bytes(sender, role)?;
         let settlement = self.settled()?;
-        Ok(settlement.price(sender, role))
+        Ok(settlement.prices[sender * 16 + role])
     }
 }

@@ -1,6 +1,6 @@
 // A plan, and what the packages cost under it.
 ghost use Rattle.std.specs.Prelude.{◌≡◌, ℕ, ◌<◌, ◌≤◌, length};
-ghost use Rattle.settling.specs.Records.{Summed, name_in, price_at};
+ghost use Rattle.settling.specs.Records.{Summed, name_in};
 
 use plans::Plan;
 
@@ -14,15 +14,4 @@ pub struct Settlement {
     ghost below: { (x : ℕ) → x < plan.boards → name_in plan x < plan.boards },
     ghost apart: { (x y : ℕ) → (x < plan.boards) × (y < plan.boards) × (name_in plan x ≡ name_in plan y) → x ≡ y },
     ghost summed: { Summed plan prices },
-}
-
-impl Settlement {
-    // What the sender's package for the role costs.
-    pub fn price(&self, sender: usize, role: usize) -> u64
-        requires sender_bound { sender < 16 }
-        requires role_bound { role < 16 }
-        ensures { result ≡ price_at self.now.prices sender role }
-    {
-        self.prices[sender * 16 + role]
-    }
 }
