@@ -1,5 +1,5 @@
--- Lists of costs, row by row: what the rule of their list says, and where an entry stands.
-use Rattle.std.proofs.Common.{◌≡◌, ℕ, zero, suc, ◌+◌, ◌*◌, ◌^◌, ◌<◌, ◌≤◌, ◌&&◌, eqb, ltb, leb, ◌≢◌, ◌⊎◌, List, [], ◌∷◌, length, get_or, set, Some, None, Option, ap, ◌∙◌, inl, inr, mul-le-mul_right, add-mul, mul-le-mul, one-mul, arith, get_or-set_other, get_or-set_same}
+-- Lists of costs, row by row: what the rule of their list says.
+use Rattle.std.proofs.Common.{◌≡◌, ℕ, zero, suc, ◌+◌, ◌*◌, ◌^◌, ◌≤◌, ◌&&◌, eqb, ltb, leb, ◌≢◌, List, [], ◌∷◌, length, get_or, set, Some, None, Option, ap, inl, inr, arith, get_or-set_other, get_or-set_same}
 use Rattle.std.proofs.lemmas.Bool.{cases_Bool, cases_eq, cases_lt, eqb-true, leb-true, and_parts}
 use Rattle.std.proofs.lemmas.List.{set_past}
 use Rattle.wrong_lists.specs.Lists.{wrong_from}
@@ -38,36 +38,3 @@ module _ (n : ℕ) where
       later : (x : ℕ) (xs : List ℕ) → x ≤ 2 ^ 44 → ((j : ℕ) → get_or xs j 0 ≤ 2 ^ 44) → (j : ℕ) → get_or (x ∷ xs) j 0 ≤ 2 ^ 44
       later x xs h r zero = h
       later x xs h r (suc j) = r j
-
--- where the entry of row x and column y stands
-pub row_place : (n x y : ℕ) → x < n → y < n → x * n + y < n * n
-row_place n x y l m =
-    let le : (x + 1) * n ≤ n * n = mul-le-mul_right n (omega arith) in
-    omega (arith, add-mul x 1 n, one-mul n)
-
-pub small_square : (n : ℕ) → n ≤ 16 → n * n ≤ 256
-small_square n l = mul-le-mul l l
-
--- one entry more of a table whose rows stand at multiples of 16
-module _ (n x y v : ℕ) (costs table : List ℕ) (most : n ≤ 16) (lx : x < n) (ly : y < n) (sized : length table ≡ 256) where
-  pub spread_above : ((a b : ℕ) → a < x → b < n → get_or table (a * 16 + b) 0 ≡ get_or costs (a * n + b) 0)
-      → (a b : ℕ) → a < x → b < n → get_or (set table (x * 16 + y) v) (a * 16 + b) 0 ≡ get_or costs (a * n + b) 0
-  spread_above h a b la lb =
-      let ne : a * 16 + b ≢ x * 16 + y = omega arith in
-      get_or-set_other table (x * 16 + y) (a * 16 + b) v 0 ne ∙ h a b la lb
-
-  pub spread_row : v ≡ get_or costs (x * n + y) 0 → ((b : ℕ) → b < y → get_or table (x * 16 + b) 0 ≡ get_or costs (x * n + b) 0)
-      → (b : ℕ) → b < y + 1 → get_or (set table (x * 16 + y) v) (x * 16 + b) 0 ≡ get_or costs (x * n + b) 0
-  spread_row e h b lb =
-      elim (cases_eq b y) [
-        | inl q ↦ rw q (get_or-set_same table (x * 16 + y) v 0 (omega arith) ∙ e)
-        | inr q ↦
-            (let ne : x * 16 + b ≢ x * 16 + y = λ s. q (omega arith) in
-            get_or-set_other table (x * 16 + y) (x * 16 + b) v 0 ne ∙ h b (omega arith))
-      ]
-
-  pub spread_past : ((a b : ℕ) → b < 16 → (n ≤ a) ⊎ (n ≤ b) → get_or table (a * 16 + b) 0 ≡ 0)
-      → (a b : ℕ) → b < 16 → (n ≤ a) ⊎ (n ≤ b) → get_or (set table (x * 16 + y) v) (a * 16 + b) 0 ≡ 0
-  spread_past h a b l o =
-      let ne : a * 16 + b ≢ x * 16 + y = elim o [ inl m ↦ (λ q. omega arith) | inr m ↦ (λ q. omega arith) ] in
-      get_or-set_other table (x * 16 + y) (a * 16 + b) v 0 ne ∙ h a b l o
