@@ -69,7 +69,7 @@ fn is_misnamed(boards: usize, naming: &[usize; 16], role: usize) -> bool
     boards <= name || naming[..role].contains(&name)
 }
 
-// The sum of the pairs' costs.
+// The sum of the pairs' costs. A chain would have to index as the loop does, since the naming says where a cost stands.
 pub(crate) fn sum_of(costs: &Costs, naming: &[usize; 16]) -> u64
     requires { (x : ℕ) → x < costs.now.boards → val naming.now x < costs.now.boards }
     ensures { result ≡ bill_of (cost_at costs.now) costs.now.boards (val naming.now) }
@@ -116,6 +116,7 @@ fn is_unfair(costs: &Costs, plan: &Assignment, role: usize) -> bool
     requires within { (x : ℕ) → x < costs.now.boards → Within (role_price plan.now x) × Within (board_price plan.now x) }
     ensures { result ≡ unfair costs.now plan.now role }
 {
+    // A chain would have to index two tables as the loop does.
     for board in 0..costs.boards {
         if (costs.table[role * 16 + board] as i64) < price_of(plan, role, board) {
             return true;

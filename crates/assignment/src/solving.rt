@@ -23,6 +23,7 @@ fn report(costs: &Costs, found: &Match) -> Assignment
     let mut naming = [0; 16];
     let mut roles = [0; 16];
     let mut boards = [0; 16];
+    // One loop fills the three tables, which a chain for each would do in three.
     for x in 0..costs.boards {
         naming[x] = found.matching.naming[x];
         roles[x] = found.prices.roles[x] as i64;

@@ -5,7 +5,7 @@ pub const MOST_BOARDS: usize = 16;
 
 pub const MOST_COST: u64 = 17_592_186_044_416;
 
-// As many roles as boards. What role x costs on board y stands at x * 16 + y.
+// As many roles as boards. What role x costs on board y stands at x * 16 + y. The memory is fixed: no heap.
 #[derive(Clone, Copy)]
 pub struct Costs {
     pub boards: usize,

@@ -136,7 +136,7 @@ impl ListRule for RowRule {
     }
 }
 
-// The rows of a list, each at a multiple of 16.
+// The rows of a list, each at a multiple of 16. To copy a row as a slice takes four bounds, and two loops read plainer.
 fn spread(boards: usize, costs: &[u64]) -> [u64; 256]
     requires most { boards ≤ 16 }
     requires whole { length costs.now ≡ boards * boards }
