@@ -1,4 +1,4 @@
-// The fields of a sheet, by the place of their first byte.
+// The fields of a sheet, by the place of their first byte: the definitions name fields by it, which a cursor would hide.
 ghost use Rattle.std.specs.Prelude.{◌≡◌, ◌^◌, ◌<◌, ◌≤◌, [], ◌∷◌, length, ℤ, pos, ◌≤ℤ◌, IfSome, Some, None, unsigned_abs};
 ghost use Rattle.std.specs.Option.{option_map};
 ghost use Rattle.std.specs.Fmt.{signed_decimal};
@@ -20,6 +20,7 @@ fn field(bytes: &[u8], at: usize, width: usize, low: i64, high: i64) -> Option<i
 }
 
 // The number from `low` to `high` in the four columns at `at`, if there is one.
+// It and `wide` are one `field`: they differ in the number's type, and each shows once that its numbers fit.
 pub(crate) fn small(bytes: &[u8], at: usize, low: usize, high: usize) -> Option<usize>
     requires { (at < 2 ^ 32) × (low ≤ 999) × (high ≤ 999) }
     ensures value { option_map pos result ≡ reads 4 (pos low) (pos high) (part bytes.now at 4) }
@@ -40,7 +41,6 @@ pub(crate) fn wide(bytes: &[u8], at: usize, low: i64, high: i64) -> Option<i64>
 
 // Whether a line ends at `at`.
 pub(crate) fn line_ends(bytes: &[u8], at: usize) -> bool
-    requires { at < 2 ^ 32 }
     ensures { result ≡ bytes_eq (10 ∷ []) (part bytes.now at 1) }
 {
     bytes.get(at) == Some(&b'\n')

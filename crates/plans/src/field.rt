@@ -5,6 +5,7 @@ ghost use Rattle.sheets.specs.Text.{spelled, meant, reads};
 
 use crate::numeral::numeral;
 
+// The loop stays: that a `fold` of the digits does not overflow was tried and did not close.
 fn magnitude(field: &[u8]) -> u128
     requires { length field.now ≤ 20 }
     ensures { result ≡ spelled 0 field.now }

@@ -5,7 +5,7 @@ ghost use Rattle.sheets.specs.Lines.{blank};
 use sheets::Line;
 use sheets::limits::BOARDS;
 
-// Whoever writes a public field owes the rules below.
+// Whoever writes a public field owes the rules below. The lines are an array, since a plan allocates nothing.
 #[derive(Clone, Copy)]
 pub struct Plan {
     pub boards: usize,

@@ -36,6 +36,7 @@ fn read_lines(bytes: &[u8], boards: usize, bill: u64) -> Result<Plan, Cause>
     ensures { Checks (first_illegal bytes.now (lines_fields boards 0 boards)) result (λ p. LinesRead bytes.now boards bill p) }
 {
     let mut lines = [Line::default(); BOARDS];
+    // The number of a line is both its place and what its first field says.
     for x in 0..boards {
         lines[x] = read_line(bytes, x, boards)?;
     }

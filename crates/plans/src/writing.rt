@@ -46,6 +46,7 @@ fn check_lines(plan: &Plan) -> Result<(), Cause>
 }
 
 // Whether the plan is written to so many bytes.
+#[tactic(auto, using(std::proofs::lemmas::Bool::Decides::nat_tests), unfolding(crate::specs::Sheet::write_refusal))]
 fn check_plan(plan: &Plan, room: usize) -> Result<(), Cause>
     ensures { Checks (write_refusal plan.now room) result (λ _. Legal plan.now × (sheet_length plan.now.boards ≤ room)) }
 {
@@ -73,6 +74,7 @@ fn put(buffer: &mut [u8], at: usize, width: usize, z: i64)
 }
 
 // Puts a number into the four columns at `at`.
+// It and `put_wide` are one `put`: they differ in the number's type, and each shows once that its numbers fit.
 fn put_small(buffer: &mut [u8], at: usize, n: usize)
     requires { (at + 4 ≤ length buffer.old) × (n ≤ 999) }
     ensures { buffer.new ≡ paste buffer.old at (text 4 (pos n)) 4 }

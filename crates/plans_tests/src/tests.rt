@@ -8,10 +8,7 @@ const SAMPLE: &[u8] =
     b"   2                  20\n   0   1                   4                   0\n   1   0                   8                   8\n";
 
 fn cause<T: Drop>(answer: Result<T, Fault>) -> Option<Cause> {
-    match answer {
-        Ok(_) => None,
-        Err(fault) => Some(fault.cause),
-    }
+    answer.err().map(|fault| fault.cause)
 }
 
 // The cause for which a sheet is refused.

@@ -1,15 +1,15 @@
 -- When a field is read as a number, and when it is not.
-use Rattle.std.proofs.Common.{◌≡◌, ℕ, zero, suc, ◌-◌, ◌^◌, ◌<◌, ◌≤◌, Bool, true, false, cond, ◌&&◌, List, [], ◌∷◌, ◌++◌, length, get_or, take, drop, replicate, ℤ, pos, negsuc, neg_ℤ, nat_abs, ◌≤ℤ◌, ◌<ℤ◌, IfSome, Some, None, decimal, Option, sym, refl, ap, ◌∙◌, inl, inr, arith, length-append}
+use Rattle.std.proofs.Common.{◌≡◌, ℕ, zero, suc, ◌-◌, ◌^◌, ◌<◌, ◌≤◌, Bool, true, false, cond, ◌&&◌, List, ◌++◌, length, take, drop, replicate, ℤ, pos, negsuc, neg_ℤ, nat_abs, ◌≤ℤ◌, ◌<ℤ◌, IfSome, Some, None, decimal, Option, sym, refl, ap, ◌∙◌, inl, inr, arith, length-append}
 use lib.ListN.{length-replicate}
 use lib.Signed.{le_z}
 use Rattle.std.proofs.lemmas.Fmt.{length-decimal-le}
 use Rattle.std.proofs.lemmas.Slice.Eq.{bytes_eq-Decides}
-use Rattle.std.proofs.lemmas.List.{drop-append-le, drop-replicate, drop_more, drop_all, take_all}
+use Rattle.std.proofs.lemmas.List.{drop-append-le, drop-replicate, take_all}
 use Rattle.std.proofs.lemmas.Int.{ints}
 use Rattle.std.proofs.lemmas.Bool.{cases_Bool, cond-true, cond-false, and_from, and_left, and_right, and_parts, lt-leb}
 use Rattle.std.specs.Fmt.{signed_decimal}
 use Rattle.std.specs.Str.{bytes_eq}
-use Rattle.sheets.specs.Sheet.{part, price_low, price_high}
+use Rattle.sheets.specs.Sheet.{price_low, price_high}
 use Rattle.sheets.specs.Text.{padded, text, spelled, dashed, meant, within, reads, Reads}
 
 -- a text in fewer columns is the end of the text in twenty
@@ -53,18 +53,6 @@ room_wide (pos m) hi a b (negsuc n) l h = absurd (omega (arith, ints))
 room_wide (negsuc m) hi a b (negsuc n) l h =
     let s : n ≤ m = omega (arith, ints) in
     let d : length (decimal (suc n)) ≤ 19 = length-decimal-le 19 (suc n) (omega arith) (omega arith) (omega arith) in omega arith
-
--- the byte that ends a line
-pub ends_yes : (bs : List ℕ) (at : ℕ) → at < length bs → get_or bs at 0 ≡ 10 → bytes_eq (10 ∷ []) (part bs at 1) ≡ true
-ends_yes bs at here e =
-    (bytes_eq-Decides (10 ∷ []) (part bs at 1)).1 (sym (ap (take 1) (drop_more bs at 0 here) ∙ ap (λ b. b ∷ []) e))
-
-pub ends_no : (bs : List ℕ) (at : ℕ) → at < length bs → (get_or bs at 0 ≡ 10 → ⊥) → bytes_eq (10 ∷ []) (part bs at 1) ≡ false
-ends_no bs at here n =
-    same_no (10 ∷ []) (part bs at 1) (λ e. n (sym (ap (λ t. get_or t 0 0) (e ∙ ap (take 1) (drop_more bs at 0 here)))))
-
-pub ends_past : (bs : List ℕ) (at : ℕ) → length bs ≤ at → bytes_eq (10 ∷ []) (part bs at 1) ≡ false
-ends_past bs at past = ap (λ t. bytes_eq (10 ∷ []) (take 1 t)) (drop_all at bs past)
 
 pub within_yes : (lo hi z : ℤ) → lo ≤ℤ z → z ≤ℤ hi → within lo hi z ≡ true
 within_yes lo hi z l h = grind (arith, ints)

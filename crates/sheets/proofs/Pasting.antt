@@ -1,7 +1,7 @@
 -- Texts that are put side by side.
-use Rattle.std.proofs.Common.{◌≡◌, ℕ, ◌+◌, ◌*◌, ◌^◌, ◌<◌, ◌≤◌, List, [], ◌∷◌, ◌++◌, length, get_or, take, set, ℤ, pos, nat_abs, sym, refl, ap, ◌∙◌, append_assoc, add-zero, arith, length-append}
+use Rattle.std.proofs.Common.{◌≡◌, ℕ, ◌+◌, ◌*◌, ◌^◌, ◌<◌, ◌≤◌, List, [], ◌∷◌, ◌++◌, length, get_or, take, ℤ, pos, nat_abs, sym, refl, ap, ◌∙◌, append_assoc, arith, length-append}
 use lib.Seq.{paste}
-use Rattle.std.proofs.lemmas.List.Edits.{paste_none, paste_more, paste-paste}
+use Rattle.std.proofs.lemmas.List.Edits.{paste-paste}
 use Rattle.std.proofs.lemmas.List.{length-take-le, take_more}
 use Rattle.std.proofs.lemmas.Int.{ints}
 use Rattle.sheets.specs.Lines.{blank}
@@ -10,12 +10,6 @@ use Rattle.sheets.specs.Text.{text}
 use Rattle.sheets.specs.declared.line.Line.{Line}
 use Rattle.sheets.proofs.Fields.{length-text, room_small, room_wide, price_small}
 use Rattle.sheets.proofs.LinesRead.{lines_push}
-
-pub end_put : (d : List ℕ) (at : ℕ) → at + 1 ≤ length d → set d at 10 ≡ paste d at (10 ∷ []) 1
-end_put d at h =
-    ap (λ e. set e at 10) (paste_none d at (10 ∷ []))
-    ∙ ap (λ i. set (paste d at (10 ∷ []) 0) i 10) (sym (add-zero at))
-    ∙ paste_more d at (10 ∷ []) 0 0 (omega arith) (omega arith)
 
 -- t right after s
 pub put_next : (d b c : List ℕ) (at m n k : ℕ) (s t : List ℕ) → b ≡ paste d at s n → c ≡ paste b m t k → n ≡ length s → k ≡ length t → at + n ≡ m → at ≤ length d

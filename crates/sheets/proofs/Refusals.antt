@@ -1,6 +1,5 @@
 -- When a plan is written, and when it is not.
-use Rattle.std.proofs.Common.{◌≡◌, ℕ, zero, suc, ◌+◌, ◌<◌, ◌≤◌, Bool, true, false, cond, ltb, List, [], ◌∷◌, length, get_or, take, drop, Some, None, Option, sym, refl, ap, ◌∙◌, inl, inr, arith, length-take}
-use Rattle.std.proofs.lemmas.List.{at_drop_more, at_drop_all, get_or-take, length-take-le}
+use Rattle.std.proofs.Common.{◌≡◌, ℕ, zero, suc, ◌+◌, ◌<◌, Bool, true, false, cond, ltb, List, [], ◌∷◌, length, get_or, Some, None, Option, refl, ap, ◌∙◌, inl, inr, arith}
 use Rattle.std.proofs.lemmas.Bool.{cases_Bool, ltb-true, lt-ltb}
 use Rattle.faults.specs.declared.cause.Cause.{Cause}
 use Rattle.faults.specs.declared.cause.Cause.TheVariants.{Field}
@@ -19,22 +18,6 @@ no_column c e = let z : ◌≡◌ {A = ℕ} 0 1 = cc in omega arith
 pub first_way : (b : Bool) (o : Option Cause) (c : Cause) → cond b o (Some c) ≡ None → (b ≡ true) × (o ≡ None)
 first_way true o c e = (refl, e)
 first_way false o c e = absurd (no_cause c e)
-
-module _ (n x : ℕ) (lines : List Line) (here : x < n) (inside : n ≤ length lines) where
-  wrong_here : wrong_line n x (drop x (take n lines)) ≡ wrong_or x (wrong_column n (get_or lines x blank)) (wrong_line n (x + 1) (drop (x + 1) (take n lines)))
-  wrong_here =
-      let l : x < length (take n lines) = omega (arith, length-take-le n lines inside) in
-      at_drop_more (wrong_line n x) (take n lines) x blank l
-      ∙ ap (λ line. wrong_or x (wrong_column n line) (wrong_line n (x + 1) (drop (x + 1) (take n lines)))) (get_or-take n lines x blank here)
-
-  pub wrong_found : (column : ℕ) → Some column ≡ wrong_column n (get_or lines x blank) → Some (Field (x + 2) column) ≡ wrong_line n x (drop x (take n lines))
-  wrong_found column e = sym (wrong_here ∙ rw (← e) refl)
-
-  pub wrong_later : None ≡ wrong_column n (get_or lines x blank) → wrong_line n (x + 1) (drop (x + 1) (take n lines)) ≡ wrong_line n x (drop x (take n lines))
-  wrong_later e = sym (wrong_here ∙ rw (← e) refl)
-
-pub wrong_none : (n x : ℕ) (lines : List Line) → n ≤ x → None ≡ wrong_line n x (drop x (take n lines))
-wrong_none n x lines past = sym (at_drop_all (wrong_line n x) (take n lines) x (omega (arith, length-take n lines)))
 
 column_none : (n : ℕ) (l : Line) → wrong_column n l ≡ None → LegalLine n l
 column_none n l e =

@@ -5,18 +5,6 @@ use Rattle.plans.specs.Sheet.{write_refusal}
 use Rattle.plans.proofs.Refusals.{checked}
 use Rattle.plans.proofs.writing.check_plan.Goals as goal
 
-pub returns-then-boards-lt1 : goal.returns-then-boards-lt1
-unfolding write_refusal
-returns-then-boards-lt1 c = search (rules, nat_tests)
-
-pub returns-then-room-due : goal.returns-then-room-due
-unfolding write_refusal
-returns-then-room-due c = search (rules, nat_tests)
-
-pub returns-then-plan : goal.returns-then-plan
-unfolding write_refusal
-returns-then-plan c = search (rules, nat_tests)
-
 pub returns : goal.returns
 unfolding write_refusal
 returns c =
