@@ -12,7 +12,8 @@ pub const MOST_ENTRY: usize = MOST_WORDS + 2;
 pub struct Bus {
     boards: usize,
     words: Vec<u32>,
-    // How many words the entries take, from the front of the list.
+    // How many words the entries take, from the front of the list: a count beside it, since the list keeps its length and
+    // `into_words` gives it back whole.
     used: usize,
     ghost within: { boards ≤ 16 },
     ghost room: { 66 ≤ vec_len words },

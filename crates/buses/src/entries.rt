@@ -15,7 +15,8 @@ pub(crate) fn write(words: &mut [u32], at: usize, board: u32, frame: &[u32])
     part.copy_from_slice(frame);
 }
 
-// Removes the entry at `at` from the first `used` words, and answers how many are used then.
+// Removes the entry at `at` from the first `used` words, and answers how many are used then. It moves words within one
+// list, which parts of the list lent apart could not.
 pub(crate) fn remove(words: &mut [u32], used: usize, at: usize) -> usize
     requires used { used ≤ length words.old }
     requires inside { at + 2 + slice_index words.old (at + 1) ≤ used }
@@ -27,7 +28,8 @@ pub(crate) fn remove(words: &mut [u32], used: usize, at: usize) -> usize
     used - (next - at)
 }
 
-// Where the first entry for a board begins.
+// Where the first entry for a board begins. The walk counts the index, since that is what its callers go on with; a walk
+// over the rest of the words would have to take it from the two lengths.
 pub(crate) fn find(words: &[u32], board: u32) -> Option<usize>
     requires { (n : ℕ) × Whole n words.now }
     ensures { MatchOption result (addressed board (entries words.now) ≡ []) (λ at. Found board words.now at) }

@@ -1,7 +1,7 @@
 // What a matrix holds.
 ghost use Rattle.std.specs.Prelude.{◌≡◌, ℕ, ◌-◌, ◌≤◌, List, ◌++◌, length, take, replicate, Decides};
 
-// The words of the widest element.
+// The words of the widest element: the size of the arrays, which cannot be computed from the constant of a kind.
 pub const MOST_WORDS: usize = 4;
 
 pub trait Element: Copy {

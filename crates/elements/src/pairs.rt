@@ -48,6 +48,7 @@ impl Element for Pair {
         Self::ONE
     }
 
+    // In wrapping calls: operators of words would be three more implementations for this one formula.
     fn times(self, other: Pair) -> Pair {
         let (x, y) = (self.real.value, self.imaginary.value);
         let (u, v) = (other.real.value, other.imaginary.value);

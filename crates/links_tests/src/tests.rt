@@ -10,10 +10,7 @@ use std::test::*;
 
 fn bus(rt: HostRuntime, boards: usize, len: usize) -> Result<Bus, Fail> {
     let words = vec![in rt.alloc(); 0; len]?;
-    match Bus::new(boards, words) {
-        Ok(made) => Ok(made),
-        Err(refusal) => Err(Fail::new("a bus is refused")),
-    }
+    Bus::new(boards, words).map_err(|_| Fail::new("a bus is refused"))
 }
 
 #[test]

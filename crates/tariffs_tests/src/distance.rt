@@ -42,11 +42,7 @@ impl Tariff for Distance {
 
     fn price(&self, question: Question) -> Result<u64, Fault> {
         question.check(self.boards)?;
-        let distance = if question.sender < question.receiver {
-            question.receiver - question.sender
-        } else {
-            question.sender - question.receiver
-        };
+        let distance = question.sender.abs_diff(question.receiver);
         Ok(RATE * distance as u64 * question.bytes as u64)
     }
 }

@@ -17,27 +17,17 @@ fn moved(sender: usize, receiver: usize, bytes: usize) -> Question {
 
 fn transformed(sender: usize, receiver: usize, bytes: usize) -> Question {
     Question {
-        sender,
-        receiver,
-        bytes,
         transformed: true,
+        ..moved(sender, receiver, bytes)
     }
 }
 
 fn asked(cause: Cause) -> Fault {
-    Fault {
-        layer: Layer::Tariffs,
-        call: Call::Ask,
-        cause,
-    }
+    Fault::new(Layer::Tariffs, Call::Ask, cause)
 }
 
 fn made(cause: Cause) -> Fault {
-    Fault {
-        layer: Layer::Tariffs,
-        call: Call::Make,
-        cause,
-    }
+    Fault::new(Layer::Tariffs, Call::Make, cause)
 }
 
 #[test]
@@ -82,8 +72,7 @@ fn a_question_is_refused_by_its_sender_then_its_receiver_then_its_bytes(
 }
 
 fn table_price(boards: usize, prices: &[u32], question: Question) -> Result<u64, Fault> {
-    Table::check(boards, prices)?;
-    Table::new(boards, prices).price(question)
+    Table::try_new(boards, prices)?.price(question)
 }
 
 #[test]
@@ -191,8 +180,7 @@ fn surcharges_lie_on_surcharges(rt: HostRuntime) -> Result<(), Fail> {
 }
 
 fn charged_table_price(prices: &[u32], charge: u32, question: Question) -> Result<u64, Fault> {
-    Table::check(1, prices)?;
-    let table = Table::new(1, prices);
+    let table = Table::try_new(1, prices)?;
     let charges = Charges::new(&table, &[charge])?;
     Surcharge::new(table, charges).price(question)
 }

@@ -24,11 +24,7 @@ impl Bus {
             return Err(Refusal { words, fault });
         }
         if words.len() < MOST_ENTRY {
-            let fault = Fault::new(
-                Layer::Links,
-                Call::Make,
-                Cause::Length { due: MOST_ENTRY },
-            );
+            let fault = Fault::new(Layer::Links, Call::Make, Cause::Length { due: MOST_ENTRY });
             return Err(Refusal { words, fault });
         }
         Ok(Bus {
