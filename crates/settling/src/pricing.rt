@@ -26,7 +26,7 @@ pub(crate) struct Pricing<'a, T: Tariff> {
 }
 
 impl<'a, T: Tariff> Pricing<'a, T> {
-    // For a call that may be refused, since the tariff is for another count of boards.
+    // What a call asks for. It is refused where the tariff is for another count of boards.
     pub(crate) fn new<E: Element>(
         call: Call,
         drawing: &'a Drawing,
