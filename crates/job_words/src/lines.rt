@@ -1,5 +1,7 @@
 // The lines of a text and the words of a line.
-ghost use Rattle.std.specs.Prelude.{◌≡◌, ℕ, ◌<◌, ◌==◌, length, position};
+ghost use Rattle.std.specs.Prelude.{◌≡◌, ℕ, ◌<◌, ◌==◌, length, position, IfOk, slice_index_or, ◌↔◌, IsErrOf};
+ghost use Rattle.std.specs.Str.{IsUtf8};
+ghost use Rattle.job_words.specs.declared.lines.Unread.TheVariants.{NoMemory};
 ghost use Rattle.job_words.specs.Lines.{Line};
 
 use std::alloc::{AllocError, Global};
@@ -13,13 +15,19 @@ pub enum Unread {
 }
 
 impl From<AllocError> for Unread {
+    ghost from_gives = { λ _ e. e ≡ NoMemory };
+
     fn from(_e: AllocError) -> Unread {
         Unread::NoMemory
     }
 }
 
-// The words of a line, without what follows a `#`.
-pub fn words<'a>(heap: Global, line: &'a [u8]) -> Result<Vec<&'a str>, Unread> {
+// The words of a line, without what follows a `#`. None is empty, and a line has none where it is no text or memory
+// runs out.
+pub fn words<'a>(heap: Global, line: &'a [u8]) -> Result<Vec<&'a str>, Unread>
+    ensures text { IsErrOf result Unread.NotText ↔ (IsUtf8 line.now → ⊥) }
+    ensures none_empty { IfOk result (λ words. (k : ℕ) (d : _) → k < length words.items → 0 < length (slice_index_or words.items k d).now) }
+{
     let text = from_utf8(line).map_err(|_| Unread::NotText)?;
     let said = text.split_once('#').map_or(text, |(before, _)| before);
     let words = said
