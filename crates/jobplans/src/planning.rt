@@ -161,10 +161,7 @@ fn fulfil(job: &Job, wish: Wish<'_>) -> Result<Found, Stop> {
     };
     match &job.tariff {
         TariffText::Plain => request.with_surcharges(Plain::new(job.boards)?),
-        TariffText::Table(prices) => {
-            Table::check(job.boards, prices)?;
-            request.with_surcharges(Table::new(job.boards, prices))
-        }
+        TariffText::Table(prices) => request.with_surcharges(Table::try_new(job.boards, prices)?),
     }
 }
 
