@@ -1,4 +1,6 @@
 // The items of a job and their names.
+ghost use Rattle.jobs.specs.Names.{NamesPart};
+
 use faults::Bank;
 use std::fmt;
 use std::str::FromStr;
@@ -32,6 +34,8 @@ pub struct NoPart;
 
 impl FromStr for Part {
     type Err = NoPart;
+
+    ghost from_str_gives = { λ word r. NamesPart word r };
 
     fn from_str(word: &str) -> Result<Part, NoPart> {
         match word {
