@@ -138,7 +138,8 @@ impl Request<'_> {
         }
     }
 
-    // Lays the job's surcharges over a tariff. Each one makes another type, so each count of them has its arm.
+    // Lays the job's surcharges over a tariff. Each one makes another type, and there are at most two: an arm for each
+    // count is plainer than a recursion over a `dyn` tariff, which needs an impl of its own.
     fn with_surcharges<T: Tariff + Drop>(&self, tariff: T) -> Result<Found, Stop> {
         match self.job.surcharges.as_slice() {
             [] => self.with_tariff(&tariff),
