@@ -22,7 +22,7 @@ pub fn search_naming(costs: &Costs) -> Match
         },
         placed: 0,
     };
-    while search.placed < costs.boards {
+    for _ in 0..costs.boards {
         search.place();
     }
     Match {

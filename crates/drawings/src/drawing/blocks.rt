@@ -13,10 +13,7 @@ fn owner_at(layout: &Layout, block: usize) -> usize
     requires { block < blocks_of layout.now }
     ensures { result ≡ owner_of layout.now block }
 {
-    match layout.block(block) {
-        Ok(block) => block.owner,
-        Err(_) => unreachable(),
-    }
+    layout.block(block).unwrap().owner
 }
 
 impl Cells<'_> {

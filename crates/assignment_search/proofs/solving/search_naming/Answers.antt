@@ -7,9 +7,9 @@ invariant_of-search c = record { matched = matched_first c.args.costs.now; fair 
 
 pub returns : goal.returns
 returns c =
-    let s = c.loop-search.search in
-    full_last c.args.costs.now s.costs.now s.prices s.matching s.placed c.loop-search.invariant.0
-    (omega (arith, ap (λ d. d.boards) c.loop-search.invariant.0))
+    let s = c.loop.search in
+    full_last c.args.costs.now s.costs.now s.prices s.matching s.placed c.loop.invariant.0
+    (omega (arith, ap (λ d. d.boards) c.loop.invariant.0))
     s.matched
     s.fair
     s.held
