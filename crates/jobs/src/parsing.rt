@@ -59,6 +59,7 @@ pub fn parse<'a>(heap: Global, text: &'a [u8]) -> Result<Job, Mistake<'a>>
     let mut draft = Draft::new(heap);
     let mut line = Line::first();
     let mut rest = text;
+    // It counts lines and no index, and the number behind the last line is needed: a `for` is no plainer.
     while !rest.is_empty() {
         let (front, after) = first_line(rest);
         read_line(&mut draft, line, front).map_err(|wrong| Mistake::new(line, wrong))?;

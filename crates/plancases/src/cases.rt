@@ -22,21 +22,13 @@ fn part(bytes: &[u8], len: usize) -> Option<(&[u8], &[u8])>
     }
 }
 
-// The first line, and what follows it.
-fn head(bytes: &[u8]) -> Option<(&str, &[u8])>
-    ensures shorter { IfSome result (λ parts. length parts.1.now < length bytes.now) }
-{
-    let len = bytes.iter().position(|&byte| byte == b'\n')?;
-    let (line, rest) = part(bytes, len)?;
-    Some((from_utf8(line).ok()?, rest))
-}
-
 // The first case, and those that follow it.
 fn next_case(bytes: &[u8]) -> Option<(Case<'_>, &[u8])>
     ensures shorter { IfSome result (λ parts. length parts.1.now < length bytes.now) }
 {
-    let (line, rest) = head(bytes)?;
-    let mut words = line.split(' ');
+    let len = bytes.iter().position(|&byte| byte == b'\n')?;
+    let (line, rest) = part(bytes, len)?;
+    let mut words = from_utf8(line).ok()?.split(' ');
     let name = words.next()?;
     let first = words.next()?.parse::<usize>().ok()?;
     match (name, words.next()) {
