@@ -10,7 +10,8 @@ pub struct Line {
     pub source: u8,
 }
 
-// There is one line more than there are spans, and what stands past the lines is never read.
+// There is one line more than there are spans, and what stands past the lines is never read. The memory is
+// fixed: no heap.
 #[derive(Clone, Copy)]
 pub struct Lines {
     pub spans: usize,

@@ -15,7 +15,7 @@ use overlays::Operation;
 
 // The public fields are as the drawing was made, and whoever writes one owes every rule below.
 // `packages` has for each sender, sixteen numbers apart, and each role the number of elements that the
-// sender sends for the role.
+// sender sends for the role. The memory is fixed: no heap.
 #[derive(Clone, Copy)]
 pub struct Drawing {
     pub operation: Operation,

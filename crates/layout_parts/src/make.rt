@@ -10,6 +10,7 @@ use faults::{Call, Fault, Layer};
 impl Parts {
     // The parts of a layout of so many rows and columns over `boards` boards, with these splits and the owner
     // of each block row by row, in the order that the letter names: R for row-major, C for column-major.
+    // Each caller names all seven for this one call: a struct of them would be no plainer.
     pub fn new(
         letter: char,
         boards: usize,

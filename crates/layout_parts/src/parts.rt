@@ -10,7 +10,7 @@ pub(crate) const BLOCKS: usize = 1024;
 
 // The tables have the greatest lengths that the rules allow; past the used parts stand zeros.
 // `starts` has for each block how far from the beginning of its owner's part it begins, and `totals` for
-// each board how many elements its blocks have in all.
+// each board how many elements its blocks have in all. The memory is fixed: no heap.
 #[derive(Clone, Copy)]
 pub struct Tables {
     pub row_splits: [u16; SPLITS],

@@ -4,7 +4,7 @@ ghost use Rattle.settling.specs.Records.{Summed, name_in};
 
 use plans::Plan;
 
-// The price of board i's package for role x stands at i * 16 + x, and 0 elsewhere.
+// The price of board i's package for role x stands at i * 16 + x, and 0 elsewhere. The memory is fixed: no heap.
 #[derive(Clone, Copy)]
 pub struct Settlement {
     pub plan: Plan,
