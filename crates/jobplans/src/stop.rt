@@ -1,4 +1,4 @@
-// Why a job goes no further.
+// Why a job goes no further. Both faults turn into it by `?`, for which the crate needs a type of its own.
 use book::BookFault;
 use faults::{Cause, Fault};
 

@@ -1,4 +1,4 @@
-// Writing a sheet.
+// Writing a sheet, by the place of each field, as the reader does.
 ghost use Rattle.std.specs.Prelude.{◌≡◌, ◌+◌, ◌*◌, ◌^◌, ◌<◌, ◌≤◌, [], ◌∷◌, length, take, pos, unsigned_abs};
 ghost use Rattle.std.specs.Fmt.{signed_decimal};
 ghost use Rattle.std.proofs.Math.Seq.{paste};
