@@ -1,10 +1,8 @@
 -- What the checks of roles say of the names that they let pass.
-use Rattle.std.proofs.Common.{◌≡◌, ℕ, zero, suc, ◌≤◌, Bool, ◌||◌, false, List, [], ◌∷◌, length, get_or, take, Some, None, Option, refl, ap, ◌∙◌, take-suc, arith}
+use Rattle.std.proofs.Common.{◌≡◌, ℕ, zero, suc, ◌≤◌, Bool, ◌||◌, false, List, [], ◌∷◌, length, get_or, take, refl, ap, ◌∙◌, take-suc, arith}
 use Rattle.std.specs.List.{list_any}
-use Rattle.std.specs.Option.{option_map}
 use Rattle.std.proofs.Math.Bool.{or_comm}
 use Rattle.std.proofs.lemmas.List.Folds.{list_any-append}
-use Rattle.faults.specs.declared.cause.Cause.{Cause}
 use Rattle.assignment_laws.specs.Judging.{any_below}
 
 -- a test of the first elements of a list is one of the indices below
@@ -16,7 +14,3 @@ any_taken f xs (suc n) l =
     ∙ or_comm (list_any f (take n xs)) (list_any f (get_or xs n 0 ∷ []))
     ∙ ap (λ b. b || list_any f (take n xs)) last
     ∙ ap (λ b. f (get_or xs n 0) || b) (any_taken f xs n (omega arith))
-
-pub no_cause : (f : ℕ → Cause) (o : Option ℕ) → option_map f o ≡ None → o ≡ None
-no_cause f None e = refl
-no_cause f (Some k) e = cc

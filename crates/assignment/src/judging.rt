@@ -50,7 +50,7 @@ fn check_plan(costs: &Costs, plan: &Assignment) -> Result<(), Cause>
 // Refuses the first role that is wrong, if any.
 fn check_roles<F: Fn(usize) -> bool>(boards: usize, is_wrong: F) -> Result<(), Cause>
     requires { (x : ℕ) → x < boards → F.pre is_wrong x }
-    ensures { (t : ℕ → Bool) → ((x : ℕ) (b : Bool) → x < boards → F.post is_wrong x b → b ≡ t x) → Checks (option_map Plan (first_below t boards)) result (λ _. Unit {0}) }
+    ensures { (t : ℕ → Bool) → ((x : ℕ) (b : Bool) → x < boards → F.post is_wrong x b → b ≡ t x) → Checks (option_map Plan (first_below t boards)) result (λ _. first_below t boards ≡ None) }
 {
     for role in 0..boards {
         if is_wrong(role) {
