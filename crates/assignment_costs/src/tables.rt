@@ -100,6 +100,7 @@ fn free_costs(boards: usize) -> Result<Costs, Cause>
     })
 }
 
+#[tactic(auto, using(crate::proofs::Rows::whole))]
 fn listed_costs(boards: usize, costs: &[u64]) -> Result<Costs, Cause>
     ensures { Checks (rows_refusal boards costs.now) result (Rowed boards costs.now) }
 {
