@@ -1,30 +1,13 @@
 -- The path switched board by board, from its end to the root.
-use Rattle.std.proofs.Common.{◌≡◌, ℕ, ◌<◌, ◌≤◌, sym, refl, ap, ◌∙◌, subst, inl, inr, arith}
+use Rattle.std.proofs.Common.{◌≡◌, ℕ, ◌<◌, ◌≤◌, sym, ap, ◌∙◌, subst, inl, inr, arith}
 use Rattle.std.proofs.lemmas.Bool.{cases_eq}
 use Rattle.assignment_search.specs.declared.tree.Matching.{Matching}
 use Rattle.assignment_search.specs.declared.tree.Tree.{Tree}
 use Rattle.assignment_search.specs.Search.{val, rank_of}
 use Rattle.assignment_search.specs.Trees.{Matched}
-use Rattle.assignment_search.specs.Paths.{Nearer, Route, Pairs, Freed, Switched, Switching, Given}
+use Rattle.assignment_search.specs.Paths.{Nearer, Route, Pairs, Freed, Switching, Given}
 
 module _ (n root : ℕ) (most : n ≤ 16) (m : Matching) (t : Tree) (e : ℕ) (start : Matched n root m 16) (route : Route n m root t e) where
-  pub switching_first : Switching n m root t m e
-  switching_first =
-      record {
-        board = route.end;
-        inside = route.inside;
-        matched =
-            record {
-              named = start.named;
-              unnamed = start.unnamed;
-              back = λ x l b. ((start.back x l b).0, λ q. omega (arith, route.free, (start.back x l b).0, ap (val m.owner) q));
-              forth = λ y l d h. start.forth y l (λ q. omega arith) h;
-            };
-        pairs = λ y l d h. inl refl;
-        freed = λ y l d h. h;
-        kept = λ x l b r. refl;
-      }
-
   module _ (k : Matching) (b : ℕ) (s : Switching n m root t k b) (j : Matching) (g : Given k (val t.way b) b j) where
     abbrev x₀ : ℕ
     x₀ = val t.way b
@@ -124,58 +107,6 @@ module _ (n root : ℕ) (most : n ≤ 16) (m : Matching) (t : Tree) (e : ℕ) (s
             kept = kept_more;
           }
 
-    module _ (last : x₀ ≡ root) (low : root < n) where
-      own_last : val j.owner b ≡ root
-      own_last = g.owner ∙ last
-
-      named_last : val j.naming root ≡ b
-      named_last = ap (val j.naming) (sym last) ∙ g.naming
-
-      names_last : (x : ℕ) → (x ≡ root → ⊥) → val j.naming x ≡ val k.naming x
-      names_last x d = g.names x (λ z. d (z ∙ last))
-
-      back_last : (x : ℕ) → x < n → val j.naming x < n → (val j.owner (val j.naming x) ≡ x) × (val j.naming x ≡ 16 → ⊥)
-      back_last x l a =
-          elim (cases_eq x root) [
-            | inl q ↦ (ap (λ z. val j.owner (val j.naming z)) q ∙ ap (val j.owner) named_last ∙ own_last ∙ sym q, λ z. omega arith)
-            | inr d ↦
-                (let own : val j.naming x ≡ val k.naming x = names_last x d in
-                let old = s.matched.back x l (omega (arith, own, a)) in
-                (ap (val j.owner) own ∙ g.owners (val k.naming x) old.1 ∙ old.0, λ z. omega arith))
-          ]
-
-      forth_last : (y : ℕ) → y < n → (y ≡ 16 → ⊥) → val j.owner y < 16 → (val j.owner y < n) × (val j.naming (val j.owner y) ≡ y)
-      forth_last y l d h =
-          elim (cases_eq y b) [
-            | inl q ↦
-                (let own : val j.owner y ≡ root = ap (val j.owner) q ∙ own_last in
-                (omega (arith, own), ap (val j.naming) own ∙ named_last ∙ sym q))
-            | inr f ↦
-                (let own : val j.owner y ≡ val k.owner y = g.owners y f in
-                let old = s.matched.forth y l f (omega (arith, own, h)) in
-                let other : val k.owner y ≡ root → ⊥ =
-                λ z. omega (arith, old.1, ap (val k.naming) z, s.matched.unnamed root (omega arith) low) in
-                (omega (arith, own, old.0), ap (val j.naming) own ∙ names_last (val k.owner y) other ∙ old.1))
-          ]
-
-      pub switched_last : Switched n m root t j
-      switched_last =
-          record {
-            matched =
-                record {
-                  named = λ x l.
-                      elim (cases_eq x root) [
-                        | inl q ↦ omega (arith, ap (val j.naming) q, named_last, s.board)
-                        | inr d ↦ omega (arith, names_last x d, s.matched.named x (omega arith))
-                      ];
-                  unnamed = λ x l a. names_last x (λ z. omega arith) ∙ s.matched.unnamed x (omega arith) a;
-                  back = back_last;
-                  forth = forth_last;
-                };
-            pairs = pairs_given 16;
-            freed = freed_given 16 (omega (arith, last, low));
-          }
-
   -- the same, for a role that is known to be the way
   pub switching_step : (k : Matching) (b x : ℕ) → Switching n m root t k b → x ≡ val t.way b → (x ≡ root → ⊥) → (j : Matching) → Given k x b j
       → Switching n m root t j (val k.naming x) × (rank_of t (val k.naming x) < rank_of t b)
@@ -187,6 +118,3 @@ module _ (n root : ℕ) (most : n ≤ 16) (m : Matching) (t : Tree) (e : ℕ) (s
             subst (λ z. Switching n m root t j (val k.naming z) × (rank_of t (val k.naming z) < rank_of t b)) (sym e)
             (switching_more k b s j g' near, omega (arith, q₀_rank k b s j g' near, near.earlier))
       ]
-
-  pub switched_end : root < n → (k : Matching) (b x : ℕ) → Switching n m root t k b → x ≡ val t.way b → x ≡ root → (j : Matching) → Given k x b j → Switched n m root t j
-  switched_end l k b x s e d j g = switched_last k b s j (subst (λ z. Given k z b j) e g) (sym e ∙ d) l

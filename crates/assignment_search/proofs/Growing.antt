@@ -115,16 +115,6 @@ module _ (c : Costs) (p : Prices) (m : Matching) (root : ℕ) (known : Matched c
       pub held_last : (y : ℕ) → y < n → 0 < rank_of s y → (y ≡ e) ⊎ (val m.owner y < 16)
       held_last y l h = elim (was y h) [ inl q ↦ inl q | inr i ↦ inr (g.held y l i) ]
 
-      pub near_last : (y : ℕ) → 0 < rank_of s y → val s.distance y ≤ val s.distance e
-      near_last y h =
-          elim (cases_lt y n) [
-            | inl l ↦ rooted_last.inside y l h
-            | inr l ↦ absurd (omega (arith, h, j.others y (λ q. omega (arith, g.end)), g.beyond y l))
-          ]
-
-      pub far_last : root < n → val s.distance e ≤ 2 ^ 45
-      far_last l = omega (arith, joined_distance e, g.rooted.short_root e g.end, c.capped (root * 16 + e), fair.low_boards e g.end)
-
     module _ (h : val m.owner e < 16) (r : Tree) (w : Relaxed c p (val m.owner e) (val s.distance e) s r) where
       abbrev x₀ : ℕ
       x₀ = val m.owner e
@@ -296,9 +286,6 @@ ones t zero z = refl
 ones t (suc n) z =
     let one : ◌≡◌ {A = ℕ} (cond (eqb (rank_of t n) 0) 1 0) 1 = cond-true (eqb (rank_of t n) 0) 1 0 (eq-eqb (rank_of t n) 0 (z n)) in
     omega (arith, ones t n z, one)
-
-pub partial_first : (c : Costs) (p : Prices) (root : ℕ) (t : Tree) → Planted c p root t → IsPartial c.boards t
-partial_first c p root t a h = omega (arith, h 0 (omega (arith, c.some)), a.rank 0)
 
 pub grown_first : (c : Costs) (p : Prices) (m : Matching) (root : ℕ) (t : Tree) → Planted c p root t → (e : ℕ) → Nearest c.boards t e → Grown c p m root t e 1
 grown_first c p m root t a e near =

@@ -1,12 +1,12 @@
 -- Where the search starts: nobody has a board, and all prices are 0.
-use Rattle.std.proofs.Common.{◌≡◌, ℕ, ◌<◌, replicate, subst, arith}
+use Rattle.std.proofs.Common.{◌≡◌, ℕ, ◌<◌, replicate, arith}
 use Rattle.std.proofs.lemmas.List.{get_or-replicate}
 use Rattle.assignment_costs.specs.declared.costs.Costs.{Costs}
 use Rattle.assignment_costs.proofs.Zeros.{getD_zeros}
 use Rattle.assignment_search.specs.declared.tree.Matching.{Matching}
 use Rattle.assignment_search.specs.declared.tree.Prices.{Prices}
 use Rattle.assignment_search.specs.Search.{val}
-use Rattle.assignment_search.specs.Trees.{Matched, Fair, Held, Full}
+use Rattle.assignment_search.specs.Trees.{Matched, Fair, Held}
 
 abbrev pub nobody : Matching
 nobody = record { owner = replicate 16 16; naming = replicate 16 16 }
@@ -38,7 +38,3 @@ module _ (c : Costs) where
 
   pub held_first : Held c nothing nobody 16
   held_first y l d h = absurd (omega (arith, h, none y (omega (arith, c.most))))
-
--- where it ends
-pub full_last : (c d : Costs) (p : Prices) (m : Matching) (k : ℕ) → d ≡ c → k ≡ d.boards → Matched d.boards k m 16 → Fair d p m → Held d p m 16 → Full c p m
-full_last c d p m k e q a f h = subst (λ z. Full z p m) e (record { matched = subst (λ j. Matched d.boards j m 16) q a; fair = f; held = h })

@@ -1,5 +1,5 @@
 use Rattle.std.proofs.Common.{◌+◌, arith}
-use Rattle.assignment_search.proofs.Growing.{grown_first, grown_more, low_more, partial_more, rooted_last, held_last, near_last, far_last}
+use Rattle.assignment_search.proofs.Growing.{grown_first, grown_more, low_more, partial_more, rooted_last, held_last}
 use Rattle.assignment_search.proofs.search.Search.grow.Goals as goal
 
 pub loop-end-init : goal.loop-end-init
@@ -68,29 +68,6 @@ returns c =
           c.loop-end-test.false;
       held =
           held_last c.args.self.now.costs.now c.args.self.now.prices c.args.self.now.matching c.args.self.now.placed c.args.self.now.matched c.args.self.now.fair c.loop-end.tree
-          c.loop-end.end
-          (c.loop-end.step + 1)
-          c.loop-end.invariant
-          c.join-2.new.tree
-          c.join-2.ensures
-          c.loop-end-test.false;
-    }
-
-pub invariant_of-result : goal.invariant_of-result
-invariant_of-result c =
-    record {
-      end_most = omega (arith, c.loop-end.invariant.end, c.args.self.now.costs.now.most);
-      far_most =
-          far_last c.args.self.now.costs.now c.args.self.now.prices c.args.self.now.matching c.args.self.now.placed c.args.self.now.matched c.args.self.now.fair c.loop-end.tree
-          c.loop-end.end
-          (c.loop-end.step + 1)
-          c.loop-end.invariant
-          c.join-2.new.tree
-          c.join-2.ensures
-          c.loop-end-test.false
-          c.requires;
-      near =
-          near_last c.args.self.now.costs.now c.args.self.now.prices c.args.self.now.matching c.args.self.now.placed c.args.self.now.matched c.args.self.now.fair c.loop-end.tree
           c.loop-end.end
           (c.loop-end.step + 1)
           c.loop-end.invariant
