@@ -28,9 +28,6 @@ module _ (s : Bus) (w ws : List ℕ) (is : w ≡ s.words.items) (len : length ws
   queue_stored : (r k : ℕ) → addressed k (entries (take r (with_items s.words ws).items)) ≡ addressed k (entries (take r ws))
   queue_stored r k = ap (λ (t : List ℕ). addressed k (entries t)) (sym (stored r))
 
-  queue_as : (k : ℕ) → addressed k (entries (take s.used w)) ≡ queue s k
-  queue_as k = ap (λ (t : List ℕ). addressed k (entries (take s.used t))) is
-
   module _ (b : ℕ) (f : List ℕ) (lt : b < s.boards) (one : 1 ≤ length f) (most : length f ≤ 64)
       (e : ws ≡ take s.used w ++ (b ∷ length f ∷ f) ++ drop (s.used + 2 + length f) w) where
     pub put_kept : Whole s.boards (take (s.used + 2 + length f) (with_items s.words ws).items)

@@ -25,9 +25,6 @@ pub record Next (b : ℕ) (xs : List ℕ) (at : ℕ) : Type 0 where
   pub size : get_or xs (at + 1) 0 ≡ length entry.frame
   pub inside : at + 2 + length entry.frame ≤ length xs
 
-pub passed_none : (b : ℕ) (xs : List ℕ) → Passed b xs 0
-passed_none b xs = record { before = []; rest = entries xs; split = refl; place = refl; first = refl }
-
 words_at : (n : ℕ) (xs : List ℕ) → Whole n xs → (before rest : List Entry) → entries xs ≡ before ++ rest → xs ≡ laid before ++ laid rest
 words_at n xs w before rest p = sym w.kept ∙ ap laid p ∙ laid_append before rest
 

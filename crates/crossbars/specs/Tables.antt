@@ -18,14 +18,6 @@ pub younger_held : (words : List ℕ) → younger (held words) ≡ []
 younger_held [] = refl
 younger_held (w ∷ ws) = refl
 
-pub held_some : (words : List ℕ) → 1 ≤ length words → held words ≡ words ∷ []
-held_some [] l = absurd (omega arith)
-held_some (w ∷ ws) l = refl
-
-pub held_none : (words : List ℕ) → none_waits (held words) ≡ (length words == 0)
-held_none [] = refl
-held_none (w ∷ ws) = sym (ne_eqb (length (w ∷ ws)) 0 (λ e. omega arith))
-
 frames_held : (words : List ℕ) → length words ≤ 64 → Frames (held words)
 frames_held [] h = tt
 frames_held (w ∷ ws) h = ((omega arith, h), tt)
@@ -34,11 +26,6 @@ pub frames_at : (xs : List Inbox) (k : ℕ) → Frames (slice_index_or (map cont
 frames_at [] k = tt
 frames_at (x ∷ xs) zero = frames_held x.words.items x.fits
 frames_at (x ∷ xs) (suc k) = frames_at xs k
-
-pub held_looked : (words room after : List ℕ) → length words ≤ 64 → none_waits (held words) ≡ false
-    → after ≡ words ++ drop (length words) room → LookDone (held words) room (length words) after
-held_looked [] room after h e p = absurd (both_ways true e refl)
-held_looked (w ∷ ws) room after h e p = record { size = refl; frame = (omega arith, h); copied = p }
 
 -- what waits for a board is what its inbox holds
 pub queue_at : (xs : List Inbox) (b : ℕ) (d : Inbox) → b < length xs → slice_index_or (map content xs) b [] ≡ content (slice_index_or xs b d)

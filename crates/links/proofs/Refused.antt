@@ -18,9 +18,6 @@ put_closed n board len o h1 h2 h3 h4 = grind (arith, nat_tests)
 pub look_some : (n board room : ℕ) (fs : List (List ℕ)) → board < n → 64 ≤ room → none_waits fs ≡ false → look_refusal n board room fs ≡ None
 look_some n board room fs h1 h2 h3 = grind (arith, nat_tests)
 
-pub look_none : (n board room : ℕ) (fs : List (List ℕ)) → board < n → 64 ≤ room → none_waits fs ≡ true → look_refusal n board room fs ≡ Some (Nothing board)
-look_none n board room fs h1 h2 h3 = grind (arith, nat_tests)
-
 pub drop_some : (n board : ℕ) (fs : List (List ℕ)) → board < n → none_waits fs ≡ false → drop_refusal n board fs ≡ None
 drop_some n board fs h1 h2 = grind (arith, nat_tests)
 

@@ -14,18 +14,6 @@ in_log s v b at e x =
     let n : s.used - 0 ≡ s.used = omega arith in
     subst (λ (t : List ℕ). Found b t at) (ap (λ (k : ℕ). take k v) n ∙ ap (take s.used) e) x
 
-pub remove-self-requires : goal.remove-self-requires
-remove-self-requires c =
-    let s = c.args.self.now in
-    let at = c.in-Some.at in
-    let w = c.deref_mut.result.now in
-    let x = in_log s c.deref.result.now c.args.board at c.deref.ensures.value c.in-Some.ensures in
-    let len : s.words.len ≡ length s.words.items = s.words.ok.0 in
-    let used : length (log s) ≡ s.used = length-take-le s.used s.words.items (omega (arith, s.fits)) in
-    let size : get_or w (at + 1) 0 ≡ length x.frame =
-    ap (λ (t : List ℕ). get_or t (at + 1) 0) c.deref_mut.ensures.value ∙ sym (get_or-take s.used s.words.items (at + 1) 0 (omega (arith, x.inside))) ∙ x.size in
-    record { used = omega (arith, s.fits, c.deref_mut.ensures.len); inside = omega (arith, x.inside) }
-
 pub invariant_of-self : goal.invariant_of-self
 invariant_of-self c =
     let s = c.args.self.now in
@@ -35,8 +23,8 @@ invariant_of-self c =
     let done = drop_kept s c.deref_mut.result.now ws c.deref_mut.ensures.value len c.args.board c.in-Some.at c.remove-self.result x c.remove-self.ensures.after in
     record { within = s.within; room = s.room; fits = omega (arith, s.fits, c.remove-self.ensures.size); kept = done.kept; legal = done.legal }
 
-pub returns : goal.returns
-returns c =
+pub returns-clause-answer : goal.returns-clause-answer
+returns-clause-answer c =
     let s = c.args.self.now in
     let b = c.args.board in
     let ws = c.remove-self.new.words in
@@ -44,4 +32,4 @@ returns c =
     let x = in_log s c.deref.result.now b c.in-Some.at c.deref.ensures.value c.in-Some.ensures in
     let p = drop_some s.boards b (queue s b) (board_kept s.boards b c.in_ok-check_board.ensures.answer.0) (found_waits b (log s) c.in-Some.at x) in
     let lists = drop_lists s c.deref_mut.result.now ws c.deref_mut.ensures.value len b c.in-Some.at c.remove-self.result x c.remove-self.ensures.after in
-    record { answer = (p, record { count = refl; lists = lists }); capacity = refl }
+    (p, record { count = refl; lists = lists })

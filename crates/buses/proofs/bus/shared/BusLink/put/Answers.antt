@@ -17,8 +17,8 @@ invariant_of-self c =
     let done = put_kept s c.deref_mut.result.now ws c.deref_mut.ensures.value len c.args.board f lt sized.0 sized.1 c.write.ensures in
     record { within = s.within; room = s.room; fits = omega (arith, leb-true (s.used + 66) s.words.len o); kept = done.kept; legal = done.legal }
 
-pub returns : goal.returns
-returns c =
+pub returns-clause-answer : goal.returns-clause-answer
+returns-clause-answer c =
     let s = c.args.self.now in
     let f = c.args.frame.now in
     let ws = c.write.new.words in
@@ -28,4 +28,4 @@ returns c =
     let sized = frame_kept (length f) c.in_ok-check_frame.ensures.answer.0 in
     let p = put_open s.boards c.args.board (length f) (roomy s c.args.board) lt sized.0 sized.1 o in
     let lists = put_lists s c.deref_mut.result.now ws c.deref_mut.ensures.value len c.args.board f lt sized.0 sized.1 c.write.ensures in
-    record { answer = (p, record { count = refl; lists = lists }); capacity = refl }
+    (p, record { count = refl; lists = lists })

@@ -5,19 +5,6 @@ use Rattle.links.proofs.Refused.{refused_by, drop_some, drop_none, board_kept}
 use Rattle.crossbars.specs.Tables.{queue_at, younger_held, changed_by}
 use Rattle.crossbars.proofs.crossbar.switch.CrossbarLink.discard.Goals as goal
 
-pub returns-then-is_empty : goal.returns-then-is_empty
-returns-then-is_empty c =
-    let s = c.args.self.now in
-    let b = c.args.board in
-    let d = c.index-self-board.result in
-    let x = get_or s.inboxes b d in
-    let kept = board_kept s.boards b c.in_ok-check_board.ensures.answer.0 in
-    let lt : b < length s.inboxes = omega (arith, kept, s.within, s.sized) in
-    let q : queue s b ≡ content x = queue_at s.inboxes b d lt in
-    let o : none_waits (queue s b) ≡ true = ap none_waits q ∙ sym c.if-is_empty.ensures in
-    let p = drop_none s.boards b (queue s b) kept o in
-    record { answer = refused_by _ _ _ _ _ p c.new.ensures.value refl }
-
 pub returns : goal.returns
 returns c =
     let s = c.args.self.now in

@@ -5,21 +5,6 @@ use Rattle.links.proofs.Refused.{refused_by, put_open, put_closed, board_kept, f
 use Rattle.crossbars.specs.Tables.{queue_at, none_is, changed_by}
 use Rattle.crossbars.proofs.crossbar.switch.CrossbarLink.put.Goals as goal
 
-pub returns-then-not-is_empty : goal.returns-then-not-is_empty
-returns-then-not-is_empty c =
-    let s = c.args.self.now in
-    let b = c.args.board in
-    let len = length c.args.frame.now in
-    let d = c.index-self-board.result in
-    let x = get_or s.inboxes b d in
-    let kept = board_kept s.boards b c.in_ok-check_board.ensures.answer.0 in
-    let lt : b < length s.inboxes = omega (arith, kept, s.within, s.sized) in
-    let q : queue s b ≡ content x = queue_at s.inboxes b d lt in
-    let o : none_waits (queue s b) ≡ false = ap none_waits q ∙ sym c.if-not-is_empty.ensures in
-    let sized = frame_kept (length c.args.frame.now) c.in_ok-check_frame.ensures.answer.0 in
-    let p = put_closed s.boards b len (none_waits (queue s b)) kept sized.0 sized.1 o in
-    record { answer = refused_by _ _ _ _ _ p c.new.ensures.value refl }
-
 pub returns : goal.returns
 returns c =
     let s = c.args.self.now in
