@@ -29,7 +29,7 @@ fn write_row<E: Element>(row: &[E], into: &mut [u32]) -> usize
     ensures after { into.new ≡ words_of_row E.words row.now ++ drop (length row.now * E.width) into.old }
 {
     let size = E::size();
-    // By index: of a slice written through `chunks_exact_mut` a proof knows the length and not the words.
+    // By index: tried as `row.iter().zip(into.chunks_exact_mut(size))`, after which a proof knows no word of `into`.
     for (k, x) in row.iter().enumerate() {
         let at = k * size;
         write(*x, &mut into[at..at + size]);
@@ -63,7 +63,7 @@ fn read_row<E: Element>(from: &[u32], row: &mut [E]) -> usize
     ensures after { row.new ≡ row_of_words E.back E.width (length row.old) from.now }
 {
     let size = E::size();
-    // By index, as `write_row`: the same holds of an `iter_mut` in a `zip`.
+    // By index: tried as `row.iter_mut().zip(from.chunks_exact(size))`, after which a proof knows no element of `row`.
     for (k, x) in row.iter_mut().enumerate() {
         let at = k * size;
         *x = read(&from[at..at + size]);
