@@ -39,7 +39,8 @@ impl Question {
     }
 }
 
-// Refuses a count of boards outside its limits.
+// Refuses a count of boards outside its limits. It stays beside `check_count` of the links: neither crate uses the other, and one
+// function for both would take the refusal and its layer, and be no shorter at its calls.
 pub fn check_boards(boards: usize) -> Result<(), Fault>
     ensures answer { Answers Layer.Tariffs Call.Make (boards_refusal boards) result (λ _. Unit {0}) (Unit {0}) }
 {
