@@ -1,88 +1,111 @@
 -- The search for the first entry of a board, entry by entry.
-use Rattle.std.proofs.Common.{◌≡◌, ℕ, ◌+◌, ◌<◌, ◌≤◌, true, eqb, List, [], ◌∷◌, ◌++◌, length, get_or, sym, refl, ap, ◌∙◌, subst, arith}
-use Rattle.std.proofs.lemmas.List.{append_assoc, append-nil, length-append, get_or-append-add}
+use Rattle.std.proofs.Common.{◌≡◌, ℕ, ◌+◌, ◌-◌, ◌<◌, ◌≤◌, true, eqb, List, [], ◌∷◌, ◌++◌, length, get_or, take, drop, sym, refl, ap, ◌∙◌, subst, arith}
+use Rattle.std.proofs.lemmas.List.{append_assoc, append-nil, length-append, get_or-append-add, drop_at}
+use Rattle.std.proofs.Math.Seq.{take-length}
 use Rattle.std.proofs.lemmas.Bool.{ne_eqb, cond-false}
 use Rattle.buses.specs.Entries.{Entry, laid, entries, addressed, lawful, Whole, Found}
 use Rattle.buses.specs.Laid.{laid_append, addressed_append, entry_facts, lawful_back}
 
--- the entries before index `at` are passed, and none is for board b
-pub record Passed (b : ℕ) (xs : List ℕ) (at : ℕ) : Type 0 where
+-- the entries before `rest` are passed, and none is for board b
+pub record Passed (b : ℕ) (xs rest : List ℕ) : Type 0 where
   pub before : List Entry
-  pub rest : List Entry
-  pub split : entries xs ≡ before ++ rest
-  pub place : length (laid before) ≡ at
+  pub after : List Entry
+  pub split : entries xs ≡ before ++ after
+  pub is : rest ≡ laid after
   pub first : addressed b before ≡ []
 
--- the next entry, with what stands in the words
-pub record Next (b : ℕ) (xs : List ℕ) (at : ℕ) : Type 0 where
+-- the next entry, which stands at the front of `rest`
+pub record Next (b : ℕ) (xs rest : List ℕ) : Type 0 where
   pub before : List Entry
   pub entry : Entry
   pub after : List Entry
   pub split : entries xs ≡ before ++ entry ∷ after
-  pub place : length (laid before) ≡ at
+  pub is : rest ≡ entry.receiver ∷ length entry.frame ∷ (entry.frame ++ laid after)
   pub first : addressed b before ≡ []
-  pub head : get_or xs at 0 ≡ entry.receiver
-  pub size : get_or xs (at + 1) 0 ≡ length entry.frame
-  pub inside : at + 2 + length entry.frame ≤ length xs
 
-words_at : (n : ℕ) (xs : List ℕ) → Whole n xs → (before rest : List Entry) → entries xs ≡ before ++ rest → xs ≡ laid before ++ laid rest
-words_at n xs w before rest p = sym w.kept ∙ ap laid p ∙ laid_append before rest
+-- what is left behind an entry's receiver and length, and behind the entry
+abbrev pub behind : List ℕ → List ℕ
+behind rest = take (length rest - 2) (drop 2 rest)
 
-next_at : (n b : ℕ) (xs : List ℕ) → Whole n xs → (at : ℕ) → at < length xs → (before rest : List Entry) → entries xs ≡ before ++ rest
-    → length (laid before) ≡ at → addressed b before ≡ [] → Next b xs at
-next_at n b xs w at l before [] p q r =
-    let e : xs ≡ laid before ++ [] = words_at n xs w before [] p in
-    absurd (omega (arith, ap length e, length-append (laid before) []))
-next_at n b xs w at l before (e ∷ after) p q r =
-    let back = e.receiver ∷ length e.frame ∷ (e.frame ++ laid after) in
-    let ws : xs ≡ laid before ++ back = words_at n xs w before (e ∷ after) p in
-    let len : length xs ≡ length (laid before) + (2 + (length e.frame + length (laid after))) =
-    ap length ws ∙ length-append (laid before) back ∙ omega (arith, length-append e.frame (laid after)) in
-    let at-0 : get_or xs at 0 ≡ e.receiver =
-    ap (λ (t : List ℕ). get_or t at 0) ws ∙ ap (λ (i : ℕ). get_or (laid before ++ back) i 0) (omega arith) ∙ get_or-append-add (laid before) back 0 0 in
-    let at_1 : get_or xs (at + 1) 0 ≡ length e.frame =
-    ap (λ (t : List ℕ). get_or t (at + 1) 0) ws ∙ ap (λ (i : ℕ). get_or (laid before ++ back) i 0) (omega arith) ∙ get_or-append-add (laid before) back 1 0 in
-    record { before = before; entry = e; after = after; split = p; place = q; first = r; head = at-0; size = at_1; inside = omega arith }
+abbrev pub left : List ℕ → List ℕ
+left rest = take (length (behind rest) - get_or rest 1 0) (drop (get_or rest 1 0) (behind rest))
 
-pub next_of : (n b : ℕ) (xs : List ℕ) → Whole n xs → (at : ℕ) → at < length xs → Passed b xs at → Next b xs at
-next_of n b xs w at l p = next_at n b xs w at l p.before p.rest p.split p.place p.first
+behind_of : (r k : ℕ) (ys : List ℕ) → behind (r ∷ k ∷ ys) ≡ ys
+behind_of r k ys = let n : length (r ∷ k ∷ ys) - 2 ≡ length ys = omega arith in ap (λ (i : ℕ). take i ys) n ∙ take-length ys
 
-pub found_here : (n b : ℕ) (xs : List ℕ) (at : ℕ) → Whole n xs → (x : Next b xs at) → x.entry.receiver ≡ b → Found b xs at
-found_here n b xs at w x e =
-    let here : lawful n (x.before ++ x.entry ∷ x.after) ≡ true = ap (lawful n) (sym x.split) ∙ w.legal in
-    let facts = entry_facts n x.entry x.after (lawful_back n x.before (x.entry ∷ x.after) here) in
-    record {
-      before = x.before;
-      frame = x.entry.frame;
-      after = x.after;
-      split = subst (λ (r : ℕ). entries xs ≡ x.before ++ record { receiver = r; frame = x.entry.frame } ∷ x.after) e x.split;
-      place = x.place;
-      first = x.first;
-      size = x.size;
-      short = facts.2;
-      inside = x.inside;
-    }
+left_of : (r : ℕ) (f ys : List ℕ) → left (r ∷ length f ∷ (f ++ ys)) ≡ ys
+left_of r f ys =
+    let n : length (f ++ ys) - length f ≡ length ys = omega (arith, length-append f ys) in
+    ap (λ (t : List ℕ). take (length t - length f) (drop (length f) t)) (behind_of r (length f) (f ++ ys))
+    ∙ ap (take (length (f ++ ys) - length f)) (drop_at f ys (length f) refl) ∙ ap (λ (k : ℕ). take k ys) n ∙ take-length ys
 
-pub passed_more : (b : ℕ) (xs : List ℕ) (at next : ℕ) (x : Next b xs at) → (x.entry.receiver ≡ b → ⊥) → next ≡ at + (2 + length x.entry.frame) → Passed b xs next
-passed_more b xs at next x d e =
-    let one = x.entry ∷ [] in
-    let s : length (laid (x.before ++ one)) ≡ next =
-    ap length (laid_append x.before one) ∙ length-append (laid x.before) (laid one) ∙ omega (arith, x.place, length-append x.entry.frame []) in
-    let none : addressed b one ≡ [] = cond-false (eqb b x.entry.receiver) (x.entry.frame ∷ []) [] (ne_eqb b x.entry.receiver (λ y. d (sym y))) in
-    record {
-      before = x.before ++ one;
-      rest = x.after;
-      split = x.split ∙ sym (append_assoc x.before one x.after);
-      place = s;
-      first = addressed_append b x.before one ∙ ap (λ (t : List (List ℕ)). addressed b x.before ++ t) none ∙ append-nil (addressed b x.before) ∙ x.first;
-    }
+fits_at : (r : ℕ) (f ys : List ℕ) → length f ≤ length (behind (r ∷ length f ∷ (f ++ ys)))
+fits_at r f ys = omega (arith, ap length (behind_of r (length f) (f ++ ys)), length-append f ys)
 
-all_at : (n b : ℕ) (xs : List ℕ) → Whole n xs → (before rest : List Entry) → entries xs ≡ before ++ rest
-    → length xs ≤ length (laid before) → addressed b before ≡ [] → addressed b (entries xs) ≡ []
-all_at n b xs w before [] p q r = ap (addressed b) (p ∙ append-nil before) ∙ r
-all_at n b xs w before (e ∷ after) p q r =
-    let ws = words_at n xs w before (e ∷ after) p in
-    absurd (omega (arith, ap length ws, length-append (laid before) (laid (e ∷ after))))
+module _ (n b : ℕ) (xs rest : List ℕ) (w : Whole n xs) (p : Passed b xs rest) where
+  words_are : xs ≡ laid p.before ++ rest
+  words_are = sym w.kept ∙ ap laid p.split ∙ laid_append p.before p.after ∙ ap (λ (t : List ℕ). laid p.before ++ t) (sym p.is)
 
-pub passed_all : (n b : ℕ) (xs : List ℕ) → Whole n xs → (at : ℕ) → length xs ≤ at → Passed b xs at → addressed b (entries xs) ≡ []
-passed_all n b xs w at l p = all_at n b xs w p.before p.rest p.split (omega (arith, p.place)) p.first
+  pub passed_within : length (laid p.before) + length rest ≡ length xs
+  passed_within = sym (ap length words_are ∙ length-append (laid p.before) rest)
+
+next_at : (b : ℕ) (xs rest : List ℕ) → 2 ≤ length rest → (before after : List Entry) → entries xs ≡ before ++ after
+    → rest ≡ laid after → addressed b before ≡ [] → Next b xs rest
+next_at b xs rest l before [] p q r = absurd (omega (arith, ap length q))
+next_at b xs rest l before (e ∷ after) p q r = record { before = before; entry = e; after = after; split = p; is = q; first = r }
+
+module _ (b : ℕ) (xs rest : List ℕ) (l : 2 ≤ length rest) (p : Passed b xs rest) where
+  abbrev x : Next b xs rest
+  x = next_at b xs rest l p.before p.after p.split p.is p.first
+
+  left_is : left rest ≡ laid x.after
+  left_is = ap left x.is ∙ left_of x.entry.receiver x.entry.frame (laid x.after)
+
+  pub fits_behind : get_or rest 1 0 ≤ length (behind rest)
+  fits_behind =
+      subst (λ (t : List ℕ). get_or t 1 0 ≤ length (behind t)) (sym x.is) (fits_at x.entry.receiver x.entry.frame (laid x.after))
+
+  pub passed_more : (get_or rest 0 0 ≡ b → ⊥) → Passed b xs (left rest)
+  passed_more d =
+      let one = x.entry ∷ [] in
+      let none : addressed b one ≡ [] =
+      cond-false (eqb b x.entry.receiver) (x.entry.frame ∷ []) [] (ne_eqb b x.entry.receiver (λ y. d (ap (λ (t : List ℕ). get_or t 0 0) x.is ∙ sym y))) in
+      record {
+        before = x.before ++ one;
+        after = x.after;
+        split = x.split ∙ sym (append_assoc x.before one x.after);
+        is = left_is;
+        first = addressed_append b x.before one ∙ ap (λ (t : List (List ℕ)). addressed b x.before ++ t) none ∙ append-nil (addressed b x.before) ∙ x.first;
+      }
+
+  pub found_here : (n : ℕ) → Whole n xs → get_or rest 0 0 ≡ b → Found b xs (length xs - length rest)
+  found_here n w e =
+      let f = x.entry.frame in
+      let back = x.entry.receiver ∷ length f ∷ (f ++ laid x.after) in
+      let ws : xs ≡ laid x.before ++ back = sym w.kept ∙ ap laid x.split ∙ laid_append x.before (x.entry ∷ x.after) in
+      let len : length xs ≡ length (laid x.before) + length back = ap length ws ∙ length-append (laid x.before) back in
+      let at : length (laid x.before) ≡ length xs - length rest = omega (arith, ap length x.is) in
+      let size : get_or xs (length xs - length rest + 1) 0 ≡ length f =
+      ap (λ (i : ℕ). get_or xs (i + 1) 0) (sym at) ∙ ap (λ (t : List ℕ). get_or t (length (laid x.before) + 1) 0) ws ∙ get_or-append-add (laid x.before) back 1 0 in
+      let here : lawful n (x.before ++ x.entry ∷ x.after) ≡ true = ap (lawful n) (sym x.split) ∙ w.legal in
+      let facts = entry_facts n x.entry x.after (lawful_back n x.before (x.entry ∷ x.after) here) in
+      let is : x.entry.receiver ≡ b = sym (ap (λ (t : List ℕ). get_or t 0 0) x.is) ∙ e in
+      record {
+        before = x.before;
+        frame = f;
+        after = x.after;
+        split = subst (λ (r : ℕ). entries xs ≡ x.before ++ record { receiver = r; frame = f } ∷ x.after) is x.split;
+        place = at;
+        first = x.first;
+        size = size;
+        short = facts.2;
+        inside = omega (arith, ap length x.is, length-append f (laid x.after));
+      }
+
+all_at : (b : ℕ) (xs rest : List ℕ) → length rest < 2 → (before after : List Entry) → entries xs ≡ before ++ after
+    → rest ≡ laid after → addressed b before ≡ [] → addressed b (entries xs) ≡ []
+all_at b xs rest l before [] p q r = ap (addressed b) (p ∙ append-nil before) ∙ r
+all_at b xs rest l before (e ∷ after) p q r = absurd (omega (arith, ap length q))
+
+pub passed_all : (b : ℕ) (xs rest : List ℕ) → length rest < 2 → Passed b xs rest → addressed b (entries xs) ≡ []
+passed_all b xs rest l p = all_at b xs rest l p.before p.after p.split p.is p.first

@@ -28,18 +28,17 @@ pub(crate) fn remove(words: &mut [u32], used: usize, at: usize) -> usize
     used - (next - at)
 }
 
-// Where the first entry for a board begins. The walk counts the index, since that is what its callers go on with; a walk
-// over the rest of the words would have to take it from the two lengths.
+// Where the first entry for a board begins.
 pub(crate) fn find(words: &[u32], board: u32) -> Option<usize>
     requires { (n : ℕ) × Whole n words.now }
     ensures { MatchOption result (addressed board (entries words.now) ≡ []) (λ at. Found board words.now at) }
 {
-    let mut at = 0;
-    while at < words.len() {
-        if words[at] == board {
-            return Some(at);
+    let mut rest = words;
+    while let [receiver, len, behind @ ..] = rest {
+        if *receiver == board {
+            return Some(words.len() - rest.len());
         }
-        at += 2 + words[at + 1] as usize;
+        rest = &behind[*len as usize..];
     }
     None
 }
