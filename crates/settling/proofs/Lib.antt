@@ -1,3 +1,5 @@
 pub mod Certified
-pub mod Sizes
 pub mod Checked
+pub mod Made
+pub mod Sizes
+pub mod Sums

@@ -20,11 +20,9 @@ impl<'a, T: Tariff> Pricing<'a, T> {
         ensures value { result ≡ total (λ i. T.cost self.now.tariff.now (asked i receiver (slice_index packages.now.bytes i) self.now.transformed)) self.now.drawing.now.target.boards }
         ensures capped { result ≤ 2 ^ 44 }
     {
-        let mut sum = 0;
-        for sender in 0..self.drawing.target.boards {
-            sum += self.price(packages, sender, receiver);
-        }
-        sum
+        (0..self.drawing.target.boards)
+            .map(|sender| self.price(packages, sender, receiver))
+            .sum()
     }
 
     // Sets what the role of these packages costs on each board.

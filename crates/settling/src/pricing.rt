@@ -12,6 +12,7 @@ use drawings::Drawing;
 use elements::Element;
 use faults::{Call, Cause, Fault, Layer};
 use overlays::Operation;
+use std::array;
 use tariffs::{Question, Tariff};
 
 // A drawing of elements of so many words, and a tariff for its boards.
@@ -54,13 +55,12 @@ impl<'a, T: Tariff> Pricing<'a, T> {
         requires { role < self.now.drawing.now.target.boards }
         ensures { (i : ℕ) → i < self.now.drawing.now.target.boards → slice_index result.bytes i ≡ bytes (package_of self.now.drawing.now i role) self.now.words }
     {
-        let mut bytes = [0; 16];
-        for sender in 0..self.drawing.target.boards {
-            bytes[sender] = self
-                .drawing
+        // Boards that the drawing does not have send none.
+        let bytes = array::from_fn(|sender| {
+            self.drawing
                 .package_bytes(sender, role, self.words)
-                .unwrap();
-        }
+                .unwrap_or(0)
+        });
         Packages { bytes }
     }
 

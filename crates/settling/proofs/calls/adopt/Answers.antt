@@ -3,9 +3,6 @@ use Rattle.settling.specs.Settling.{Settles, plan_refusal}
 use Rattle.settling.proofs.Checked.{adopt_same, moved}
 use Rattle.settling.proofs.calls.adopt.Goals as goal
 
-pub returns-in_err-pricing : goal.returns-in_err-pricing
-returns-in_err-pricing g c = let made = c.new.ensures in (made.0, made.1, search rules)
-
 pub returns-in_err-map_err : goal.returns-in_err-map_err
 returns-in_err-map_err g c =
     let made = c.in_ok-pricing.ensures in

@@ -1,10 +1,7 @@
-use Rattle.std.proofs.Common.{ap, rules}
+use Rattle.std.proofs.Common.{ap}
 use Rattle.settling.specs.Settling.{Settles}
 use Rattle.settling.proofs.Checked.{moved}
 use Rattle.settling.proofs.calls.settle.Goals as goal
-
-pub returns-in_err-pricing : goal.returns-in_err-pricing
-returns-in_err-pricing g c = let made = c.new.ensures in (made.0, made.1, search rules)
 
 pub returns : goal.returns
 returns g c =

@@ -1,26 +1,29 @@
-use Rattle.std.proofs.Common.{◌≡◌, ◌<◌, ◌≤◌, length, sym, ◌∙◌, subst, arith}
-use Rattle.std.proofs.lemmas.List.{length-set}
-use Rattle.assignment_costs.proofs.Rows.{capped_set}
-use Rattle.drawings.specs.Drawings.{package_of}
-use Rattle.layout_parts.proofs.Tables.{entry_more}
-use Rattle.overlays.specs.Packages.{bytes}
+use Rattle.std.proofs.Common.{ℕ, ◌<◌, ◌≤◌, slice_index, inl, inr, arith, rules}
+use Rattle.std.proofs.lemmas.Bool.{cases_lt}
+use Rattle.std.proofs.lemmas.List.{get_or_past}
 use Rattle.tariffs.specs.Questions.{most_bytes}
-use Rattle.settling.proofs.Sizes.{bytes_most}
+use Rattle.settling.proofs.Made.{made_each}
+use Rattle.settling.proofs.Sizes.{Asked, asked_bytes, asked_most}
 use Rattle.settling.proofs.pricing.Pricing.packages.Goals as goal
 
-pub loop-sender-preserved : goal.loop-sender-preserved
-loop-sender-preserved g c =
+pub invariant_of-result-clause-capped : goal.invariant_of-result-clause-capped
+invariant_of-result-clause-capped g c =
     let p = c.args.self.now in
     let d = p.drawing.now in
     let x = c.args.role in
-    let w = p.words in
-    let xs = c.loop-sender.bytes in
-    let i = c.loop-sender.sender in
-    let v = c.unwrap.result in
-    let sized : length xs ≡ 16 = c.loop-sender.invariant.0 in
-    let is : v ≡ bytes (package_of d i x) w = grind (arith, c.package_bytes.ensures.cases, c.unwrap.ensures) in
-    let low : i < 16 = omega (arith, c.loop-sender-test.true, d.target.counted.1) in (
-      length-set xs i v ∙ sized,
-      entry_more (λ k. bytes (package_of d k x) w) xs i v (omega (arith, sized)) is c.loop-sender.invariant.1,
-      capped_set xs i v most_bytes c.loop-sender.invariant.2 (subst (λ z. z ≤ most_bytes) (sym is) (bytes_most d i x w p.narrow)),
-    )
+    let made = c.from_fn-bytes.ensures.items in
+    let each : (i : ℕ) → i < 16 → slice_index c.from_fn-bytes.result i ≤ most_bytes =
+    λ i l. asked_most d i x p.words (slice_index c.from_fn-bytes.result i) p.narrow (made_each _ _ (λ i v. Asked d i x p.words v) (λ i y q r. search rules) c.from_fn-bytes.result 0 16 i made.each l) in
+    λ i. elim (cases_lt i 16) [
+      | inl l ↦ each i l
+      | inr h ↦ omega (arith, get_or_past c.from_fn-bytes.result i 0 (omega (arith, made.long)))
+    ]
+
+pub returns : goal.returns
+returns g c =
+    let p = c.args.self.now in
+    let d = p.drawing.now in
+    let x = c.args.role in
+    let made = c.from_fn-bytes.ensures.items in
+    λ i l. asked_bytes d i x p.words (slice_index c.from_fn-bytes.result i) l c.requires
+    (made_each _ _ (λ i v. Asked d i x p.words v) (λ i y q r. search rules) c.from_fn-bytes.result 0 16 i made.each (omega (arith, l, d.target.counted.1)))

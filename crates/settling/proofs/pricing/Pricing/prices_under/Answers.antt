@@ -1,4 +1,4 @@
-use Rattle.std.proofs.Common.{◌≡◌, ℕ, ◌+◌, ◌*◌, ◌<◌, ◌≤◌, ◌⊎◌, length, sym, refl, ap, ◌∙◌, subst, inl, inr, arith}
+use Rattle.std.proofs.Common.{◌≡◌, ℕ, ◌+◌, ◌*◌, ◌<◌, ◌≤◌, ◌⊎◌, length, slice_index, sym, refl, ap, ◌∙◌, subst, inl, inr, arith}
 use Rattle.std.proofs.lemmas.Bool.{cases_eq}
 use Rattle.drawings.specs.Drawings.{package_of}
 use Rattle.overlays.specs.Packages.{bytes}
@@ -19,6 +19,7 @@ loop-role-preserved g c =
     let role = c.loop-role.role in
     let after = c.fill_column.new.prices in
     let filled = c.fill_column.ensures in
+    let packages = c.packages-packages.result in
     let price = g.T.Tariff.cost p.tariff.now in
     let w = p.words in
     let t = p.transformed in
@@ -41,9 +42,9 @@ loop-role-preserved g c =
     ] in
     let here : (i : ℕ) → i < n → price_at after i role ≡ asks i role =
     λ i l.
-    filled.here i l
-    ∙ ap (λ z. price (asked i line.board z t)) (c.packages-packages.ensures i l)
-    ∙ ap (λ z. price (asked i z.board (bytes (package_of d i role) w) t)) read in
+    ◌∙◌ {b = price (asked i line.board (slice_index packages.bytes i) t)} (filled.here i l)
+    (ap (λ z. price (asked i line.board z t)) (c.packages-packages.ensures i l)
+    ∙ ap (λ z. price (asked i z.board (bytes (package_of d i role) w) t)) read) in
     let sized : length after ≡ 256 = filled.len ∙ c.loop-role.invariant.0 in (
       sized,
       λ i x l m.
