@@ -1,5 +1,6 @@
 -- The search for the first entry of a board, entry by entry.
-use Rattle.std.proofs.Common.{◌≡◌, ℕ, ◌+◌, ◌-◌, ◌<◌, ◌≤◌, true, eqb, List, [], ◌∷◌, ◌++◌, length, get_or, take, drop, sym, refl, ap, ◌∙◌, subst, arith}
+use Rattle.std.proofs.Common.{◌≡◌, ℕ, ◌+◌, ◌-◌, ◌<◌, ◌≤◌, true, eqb, List, [], ◌∷◌, ◌++◌, length, get_or, take, drop, Some, Option, sym, refl, ap, ◌∙◌, subst, arith}
+use Rattle.std.specs.Prelude.{MatchOption}
 use Rattle.std.proofs.lemmas.List.{append_assoc, append-nil, length-append, get_or-append-add, drop_at}
 use Rattle.std.proofs.Math.Seq.{take-length}
 use Rattle.std.proofs.lemmas.Bool.{ne_eqb, cond-false}
@@ -109,3 +110,7 @@ all_at b xs rest l before (e ∷ after) p q r = absurd (omega (arith, ap length 
 
 pub passed_all : (b : ℕ) (xs rest : List ℕ) → length rest < 2 → Passed b xs rest → addressed b (entries xs) ≡ []
 passed_all b xs rest l p = all_at b xs rest l p.before p.after p.split p.is p.first
+
+-- what is said of a found index holds of the index that goes on
+pub found_of : (b : ℕ) (xs : List ℕ) (o : Option ℕ) (at : ℕ) → o ≡ Some at → MatchOption o (addressed b (entries xs) ≡ []) (λ k. Found b xs k) → Found b xs at
+found_of b xs o at e h = subst (λ (p : Option ℕ). MatchOption p (addressed b (entries xs) ≡ []) (λ k. Found b xs k)) e h

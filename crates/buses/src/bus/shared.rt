@@ -92,9 +92,8 @@ impl Link for Bus {
         check_board(Call::Look, board, self.boards)?;
         check_buffer(buffer)?;
         let log = &self.words[0..self.used];
-        let Some(at) = entries::find(log, board as u32) else {
-            return Err(Fault::new(Layer::Links, Call::Look, Cause::Nothing { board }));
-        };
+        let nothing = Fault::new(Layer::Links, Call::Look, Cause::Nothing { board });
+        let at = entries::find(log, board as u32).ok_or(nothing)?;
         Ok(entries::copy(log, at, buffer))
     }
 
@@ -104,9 +103,8 @@ impl Link for Bus {
     {
         check_board(Call::Drop, board, self.boards)?;
         let used = self.used;
-        let Some(at) = entries::find(&self.words[0..used], board as u32) else {
-            return Err(Fault::new(Layer::Links, Call::Drop, Cause::Nothing { board }));
-        };
+        let nothing = Fault::new(Layer::Links, Call::Drop, Cause::Nothing { board });
+        let at = entries::find(&self.words[0..used], board as u32).ok_or(nothing)?;
         self.used = entries::remove(&mut self.words, used, at);
         Ok(())
     }
