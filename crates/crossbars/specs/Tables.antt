@@ -27,6 +27,11 @@ frames_at [] k = tt
 frames_at (x ∷ xs) zero = frames_held x.words.items x.fits
 frames_at (x ∷ xs) (suc k) = frames_at xs k
 
+pub held_looked : (words room after : List ℕ) → length words ≤ 64 → none_waits (held words) ≡ false
+    → after ≡ words ++ drop (length words) room → LookDone (held words) room (length words) after
+held_looked [] room after h e p = absurd (both_ways true e refl)
+held_looked (w ∷ ws) room after h e p = record { size = refl; frame = (omega arith, h); copied = p }
+
 -- what waits for a board is what its inbox holds
 pub queue_at : (xs : List Inbox) (b : ℕ) (d : Inbox) → b < length xs → slice_index_or (map content xs) b [] ≡ content (slice_index_or xs b d)
 queue_at xs b d l = get_or-map content xs b d [] l

@@ -1,7 +1,7 @@
-use Rattle.std.proofs.Common.{◌≡◌, ◌<◌, true, false, length, get_or, sym, refl, ap, ◌∙◌, arith}
+use Rattle.std.proofs.Common.{◌≡◌, ◌<◌, false, length, get_or, sym, refl, ap, ◌∙◌, arith}
 use Rattle.crossbars.specs.Crossbars.{queue, content}
 use Rattle.links.specs.Frames.{none_waits, younger}
-use Rattle.links.proofs.Refused.{refused_by, drop_some, drop_none, board_kept}
+use Rattle.links.proofs.Refused.{drop_some, board_kept}
 use Rattle.crossbars.specs.Tables.{queue_at, younger_held, changed_by}
 use Rattle.crossbars.proofs.crossbar.switch.CrossbarLink.discard.Goals as goal
 

@@ -1,7 +1,7 @@
-use Rattle.std.proofs.Common.{◌≡◌, ℕ, ◌<◌, true, false, List, [], ◌∷◌, ◌++◌, length, get_or, sym, refl, ap, ◌∙◌, arith}
+use Rattle.std.proofs.Common.{◌≡◌, ℕ, ◌<◌, true, List, [], ◌∷◌, ◌++◌, length, get_or, sym, refl, ap, ◌∙◌, arith}
 use Rattle.crossbars.specs.Crossbars.{queue, content}
 use Rattle.links.specs.Frames.{none_waits}
-use Rattle.links.proofs.Refused.{refused_by, put_open, put_closed, board_kept, frame_kept}
+use Rattle.links.proofs.Refused.{put_open, board_kept, frame_kept}
 use Rattle.crossbars.specs.Tables.{queue_at, none_is, changed_by}
 use Rattle.crossbars.proofs.crossbar.switch.CrossbarLink.put.Goals as goal
 
