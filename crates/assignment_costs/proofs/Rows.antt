@@ -1,9 +1,9 @@
 -- Lists of costs, row by row: what the rule of their list says.
-use Rattle.std.proofs.Common.{◌≡◌, ℕ, zero, suc, ◌+◌, ◌*◌, ◌^◌, ◌≤◌, ◌&&◌, eqb, ltb, leb, ◌≢◌, List, [], ◌∷◌, length, get_or, set, Some, None, Option, ap, inl, inr, arith, get_or-set_other, get_or-set_same}
+use Rattle.std.proofs.Common.{◌≡◌, ℕ, zero, suc, ◌+◌, ◌*◌, ◌^◌, ◌≤◌, ◌&&◌, eqb, ltb, leb, ◌≢◌, List, [], ◌∷◌, length, get_or, set, Some, None, Option, ap, inl, inr, arith, get_or-set_other, get_or-set_same, sym}
 use Rattle.std.proofs.lemmas.Bool.{cases_Bool, cases_eq, cases_lt, eqb-true, leb-true, and_parts}
 use Rattle.std.proofs.lemmas.List.{set_past}
 use Rattle.wrong_lists.specs.Lists.{wrong_from}
-use Rattle.wrong_lists.proofs.Rules.{no_some}
+use Rattle.std.proofs.lemmas.Option.{none-some}
 use Rattle.assignment_costs.specs.Costs.{row_rule}
 
 -- a write within the limit keeps a list within it
@@ -25,14 +25,14 @@ module _ (n : ℕ) where
   whole [] k before e =
       elim (cases_Bool (eqb k (n * n))) [
         | inl t ↦ (omega (arith, eqb-true k (n * n) t), λ j. omega arith)
-        | inr f ↦ absurd (no_some k (rw f at e))
+        | inr f ↦ absurd (none-some k (sym (rw f at e)))
       ]
   whole (x ∷ xs) k before e =
       elim (cases_Bool (ltb k (n * n) && leb x (2 ^ 44))) [
         | inl t ↦
             (let r = whole xs (k + 1) (Some x) (rw t at e) in
             (omega (arith, r.0), later x xs (leb-true x (2 ^ 44) (and_parts (ltb k (n * n)) (leb x (2 ^ 44)) t).1) r.1))
-        | inr f ↦ absurd (no_some k (rw f at e))
+        | inr f ↦ absurd (none-some k (sym (rw f at e)))
       ]
     where
       later : (x : ℕ) (xs : List ℕ) → x ≤ 2 ^ 44 → ((j : ℕ) → get_or xs j 0 ≤ 2 ^ 44) → (j : ℕ) → get_or (x ∷ xs) j 0 ≤ 2 ^ 44

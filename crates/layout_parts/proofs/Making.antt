@@ -1,7 +1,8 @@
 -- What it says that a layout is not refused.
-use Rattle.std.proofs.Common.{◌≡◌, ℕ, ◌-◌, ◌*◌, ◌≤◌, cond, ◌&&◌, leb, List, [], ◌∷◌, length, is_some, Some, None, Option, refl, ap, ◌∙◌, inl, inr, mul-le-mul, arith}
+use Rattle.std.proofs.Common.{◌≡◌, ℕ, ◌-◌, ◌*◌, ◌≤◌, cond, ◌&&◌, leb, List, [], ◌∷◌, length, is_some, Some, None, Option, refl, ap, ◌∙◌, inl, inr, mul-le-mul, arith, sym}
 use Rattle.std.proofs.lemmas.Bool.{cases_Bool, and_parts, leb-true}
 use Rattle.std.specs.Option.{option_map}
+use Rattle.std.proofs.lemmas.Option.{none-some}
 use Rattle.wrong_lists.specs.Lists.{Rule, Legal, first_wrong}
 use Rattle.faults.specs.declared.cause.Cause.{Cause}
 use Rattle.faults.specs.declared.cause.Cause.TheVariants.{Board, Size, Splits, Owners}
@@ -16,24 +17,21 @@ use Rattle.layout_parts.specs.Buildable.{Buildable}
 use Rattle.layout_parts.specs.Refusals.{topmost, letter_cause, boards_cause, size_cause, splits_cause, owners_cause, frame_refusal, make_refusal}
 use Rattle.layout_parts.specs.Tables.{Faultless}
 
-no_cause : (x : Cause) → ◌≡◌ {A = Option Cause} (Some x) None → ⊥
-no_cause x e = let z : ◌≡◌ {A = ℕ} 0 1 = cc in omega arith
-
 -- a list with no topmost cause has none at its head
 topmost_none : (o : Option Cause) (rest : List (Option Cause)) → topmost (o ∷ rest) ≡ None → (o ≡ None) × (topmost rest ≡ None)
 topmost_none None rest e = (refl, e)
-topmost_none (Some x) rest e = absurd (no_cause x e)
+topmost_none (Some x) rest e = absurd (none-some x (sym e))
 
 mapped_none : (f : ℕ → Cause) (o : Option ℕ) → option_map f o ≡ None → o ≡ None
 mapped_none f None e = refl
-mapped_none f (Some i) e = absurd (no_cause (f i) e)
+mapped_none f (Some i) e = absurd (none-some (f i) (sym e))
 
 -- a limit that raises no cause is kept
 limit : (m top : ℕ) (x : Cause) → cond (leb 1 m && leb m top) None (Some x) ≡ None → (1 ≤ m) × (m ≤ top)
 limit m top x e =
     elim (cases_Bool (leb 1 m && leb m top)) [
       | inl t ↦ (let p = and_parts (leb 1 m) (leb m top) t in (leb-true 1 m p.0, leb-true m top p.1))
-      | inr f ↦ absurd (no_cause x (rw f at e))
+      | inr f ↦ absurd (none-some x (sym (rw f at e)))
     ]
 
 module _ (letter n rows columns : ℕ) (rs cs : List ℕ) (e : frame_refusal letter n rows columns rs cs ≡ None) where

@@ -1,7 +1,7 @@
 -- Where an element lies, from what is known of its block.
-use Rattle.std.proofs.Common.{◌≡◌, ℕ, ◌+◌, ◌-◌, ◌*◌, ◌<◌, ◌≤◌, ◌&&◌, ltb, Some, None, Option, sym, ap, ◌∙◌, subst, inl, inr, mul-le-mul, arith}
+use Rattle.std.proofs.Common.{◌≡◌, ℕ, ◌+◌, ◌-◌, ◌*◌, ◌<◌, ◌≤◌, ◌&&◌, ltb, Some, None, sym, ap, ◌∙◌, subst, inl, inr, mul-le-mul, arith}
 use Rattle.std.proofs.lemmas.Bool.{cases_Bool, and_parts, and_from, cond-true, lt-ltb, ltb-true}
-use Rattle.faults.specs.declared.cause.Cause.{Cause}
+use Rattle.std.proofs.lemmas.Option.{none-some}
 use Rattle.faults.specs.declared.cause.Cause.TheVariants.{Beyond}
 use Rattle.splits.specs.Blocks.{Covers, blocks, owner, top, left, height, width}
 use Rattle.splits.specs.Laws.{Naming}
@@ -75,16 +75,13 @@ module _ (l : Layout) (b r c : ℕ) (v : Covers (grid_of l) b r c) (k : Block) (
         down_column = λ m u. (let e : m * s.column_step ≡ m * column_step g b = ap (λ x. m * x) down in omega (arith, (stepped l.boards l.rows l.columns g (sound l) b r c m v).1 u, offset, e));
       }
 
-no_cause : (x : Cause) → ◌≡◌ {A = Option Cause} (Some x) None → ⊥
-no_cause x e = let z : ◌≡◌ {A = ℕ} 0 1 = cc in omega arith
-
 -- an element that is not refused is one of the matrix
 module _ (l : Layout) (r c : ℕ) (e : element_refusal l r c ≡ None) where
   in_matrix : (r < l.rows) × (c < l.columns)
   in_matrix =
       elim (cases_Bool (ltb r l.rows && ltb c l.columns)) [
         | inl t ↦ (let p = and_parts (ltb r l.rows) (ltb c l.columns) t in (ltb-true r l.rows p.0, ltb-true c l.columns p.1))
-        | inr f ↦ absurd (no_cause (Beyond 0) (rw f at e))
+        | inr f ↦ absurd (none-some (Beyond 0) (sym (rw f at e)))
       ]
 
   pub covers_it : Covers (grid_of l) (cover_of l r c) r c

@@ -10,7 +10,7 @@ use Rattle.plans.specs.declared.plan.Plan.{Plan}
 use Rattle.plans.proofs.OneSheet.{sheets_are_one}
 use Rattle.plans.proofs.ReadBack.{sheet_long, sheet_read_back}
 use Rattle.plans.proofs.Refusals.{none_from_legal}
-use Rattle.sheets.proofs.Refusals.{no_cause}
+use Rattle.std.proofs.lemmas.Option.{none-some}
 
 module _ (p : Plan) (before after : List ℕ) (k : ℕ) (written : Written p before k after) where
   pub front_is : take (k - 0) after ≡ sheet p
@@ -24,7 +24,7 @@ module _ (p : Plan) (before after : List ℕ) (k : ℕ) (written : Written p bef
   back_again bs (Ok q) none is (read, sheet_is) =
       (none, (sheets_are_one q p bs sheet_is (record { legal = written.legal; is = is }), subst (λ i. Written p before i after) written.len written))
   back_again bs (Err f) none is (refused, layer, call, same) =
-      absurd (no_cause f.cause (sym refused ∙ ap read_refusal is ∙ sheet_read_back p written.legal))
+      absurd (none-some f.cause (sym (sym refused ∙ ap read_refusal is ∙ sheet_read_back p written.legal)))
 
 -- what is read is written as it was
 pub echoed : (p : Plan) (bs before after : List ℕ) (r : Result ℕ Fault) → length before ≡ 809 → read_refusal bs ≡ None → SheetOf p bs
@@ -35,7 +35,7 @@ echoed p bs before after (Ok k) size none sheet_is (accepted, written) = (
   (written.len ∙ sym (ap length sheet_is.is ∙ sheet_long p sheet_is.legal), written.is ∙ ap (λ t. t ++ drop k before) (sym sheet_is.is)),
 )
 echoed p bs before after (Err f) size none sheet_is (refused, layer, call, same) =
-    absurd (no_cause f.cause (sym refused ∙ none_from_legal p (length before) sheet_is.legal (omega (arith, sheet_is.legal.few))))
+    absurd (none-some f.cause (sym (none_from_legal p (length before) sheet_is.legal (omega (arith, sheet_is.legal.few))) ∙ refused))
 
 pub echo_bound : (p : Plan) (before after : List ℕ) (r : Result ℕ Fault)
     → Answers Plans Write (write_refusal p (length before)) r (λ k. Written p before k after) (after ≡ before) → IfOk r (λ k. k ≤ 809)

@@ -9,6 +9,7 @@ use Rattle.std.proofs.lemmas.Int.{ints}
 use Rattle.std.proofs.lemmas.Bool.{cases_Bool, cond-true, cond-false, and_from, and_left, and_right, and_parts, lt-leb}
 use Rattle.std.specs.Fmt.{signed_decimal}
 use Rattle.std.specs.Str.{bytes_eq}
+use Rattle.std.proofs.lemmas.Option.{none-some, same_Some}
 use Rattle.sheets.specs.Sheet.{price_low, price_high}
 use Rattle.sheets.specs.Text.{padded, text, spelled, dashed, meant, within, reads, Reads}
 
@@ -82,12 +83,6 @@ pub within_from : (lo hi z : ℤ) → within lo hi z ≡ true → (lo ≤ℤ z) 
 within_from lo hi z e =
     let both = and_parts (le_z lo z) (le_z z hi) e in (grind (arith, ints), grind (arith, ints))
 
-no_some : (z : ℤ) → ◌≡◌ {A = Option ℤ} None (Some z) → ⊥
-no_some z e = let f : ◌≡◌ {A = ℕ} 0 1 = cc in omega arith
-
-same_some : (y z : ℤ) → ◌≡◌ {A = Option ℤ} (Some y) (Some z) → y ≡ z
-same_some y z e = cc
-
 module _ (w : ℕ) (lo hi : ℤ) (bs : List ℕ) where
   none_by_limits : within lo hi (meant bs) ≡ false → None ≡ reads w lo hi bs
   unfolding reads
@@ -121,7 +116,7 @@ module _ (w : ℕ) (lo hi : ℤ) (bs : List ℕ) where
   reads_found (Some z) e =
       elim (cases_Bool (within lo hi (meant bs) && bytes_eq bs (text w (meant bs)))) [
         | inl t ↦
-            (let is : z ≡ meant bs = same_some z (meant bs) (e ∙ cond-true _ _ _ t) in
+            (let is : z ≡ meant bs = same_Some z (meant bs) (e ∙ cond-true _ _ _ t) in
             let both = and_parts (within lo hi (meant bs)) _ t in
             let inside : within lo hi z ≡ true = ap (within lo hi) is ∙ both.0 in
             record {
@@ -129,7 +124,7 @@ module _ (w : ℕ) (lo hi : ℤ) (bs : List ℕ) where
               high = (within_from lo hi z inside).1;
               is = (bytes_eq-Decides bs (text w (meant bs))).0 both.1 ∙ ap (text w) (sym is);
             })
-        | inr f ↦ absurd (no_some z (sym (e ∙ cond-false _ _ _ f)))
+        | inr f ↦ absurd (none-some z (sym (e ∙ cond-false _ _ _ f)))
       ]
 
   pub reads_short : ((z : ℤ) → lo ≤ℤ z → z ≤ℤ hi → length (signed_decimal z) ≤ w) → (length bs ≡ w → ⊥) → None ≡ reads w lo hi bs

@@ -1,7 +1,8 @@
 -- The lines of a sheet, read one after the other.
-use Rattle.std.proofs.Common.{◌≡◌, ℕ, suc, ◌+◌, ◌*◌, ◌<◌, ◌≤◌, List, [], ◌∷◌, ◌++◌, length, get_or, take, set, Some, None, Option, sym, refl, ap, ◌∙◌, subst, inl, inr, append_assoc, arith, below_more}
+use Rattle.std.proofs.Common.{◌≡◌, ℕ, suc, ◌+◌, ◌*◌, ◌<◌, ◌≤◌, List, [], ◌∷◌, ◌++◌, length, get_or, take, set, Some, None, sym, refl, ap, ◌∙◌, subst, inl, inr, append_assoc, arith, below_more}
 use Rattle.std.proofs.lemmas.List.{append-nil, get_or-set_same, get_or-set_other, take_more_set, length-take-le}
 use Rattle.std.proofs.lemmas.Bool.{cases_Bool}
+use Rattle.std.proofs.lemmas.Option.{none-some}
 use Rattle.faults.specs.declared.cause.Cause.{Cause}
 use Rattle.faults.specs.declared.cause.Cause.TheVariants.{Field}
 use Rattle.sheets.specs.Lines.{blank}
@@ -9,21 +10,18 @@ use Rattle.sheets.specs.Sheet.{first_illegal, line_fields, lines_fields, line_te
 use Rattle.sheets.specs.declared.line.Line.{Line}
 use Rattle.sheets.proofs.LineFields.{part_join}
 
-no_some : (x : Cause) → ◌≡◌ {A = Option Cause} (Some x) None → ⊥
-no_some x e = let z : ◌≡◌ {A = ℕ} 0 1 = cc in omega arith
-
 -- fields after fields that stand
 pub illegal_after : (bs : List ℕ) (fs gs : List FieldAt) → first_illegal bs fs ≡ None → first_illegal bs (fs ++ gs) ≡ first_illegal bs gs
 illegal_after bs [] gs e = refl
 illegal_after bs (f ∷ fs) gs e =
     elim (cases_Bool (f.stands (part bs f.at f.width))) [
       | inl t ↦ (let r : first_illegal bs fs ≡ None = rw t at e in rw t (illegal_after bs fs gs r))
-      | inr n ↦ absurd (no_some _ (rw n at e))
+      | inr n ↦ absurd (none-some _ (sym (rw n at e)))
     ]
 
 -- fields after one that does not stand
 pub illegal_before : (bs : List ℕ) (fs gs : List FieldAt) (c : Cause) → first_illegal bs fs ≡ Some c → first_illegal bs (fs ++ gs) ≡ Some c
-illegal_before bs [] gs c e = absurd (no_some c (sym e))
+illegal_before bs [] gs c e = absurd (none-some c e)
 illegal_before bs (f ∷ fs) gs c e =
     elim (cases_Bool (f.stands (part bs f.at f.width))) [
       | inl t ↦ (let r : first_illegal bs fs ≡ Some c = rw t at e in rw t (illegal_before bs fs gs c r))

@@ -1,6 +1,7 @@
 -- When a plan is written, and when it is not.
-use Rattle.std.proofs.Common.{◌≡◌, ℕ, zero, suc, ◌+◌, ◌<◌, Bool, true, false, cond, ltb, List, [], ◌∷◌, length, get_or, Some, None, Option, refl, ap, ◌∙◌, inl, inr, arith}
+use Rattle.std.proofs.Common.{◌≡◌, ℕ, zero, suc, ◌+◌, ◌<◌, Bool, true, false, cond, ltb, List, [], ◌∷◌, length, get_or, Some, None, Option, refl, ap, ◌∙◌, inl, inr, arith, sym}
 use Rattle.std.proofs.lemmas.Bool.{cases_Bool, ltb-true, lt-ltb}
+use Rattle.std.proofs.lemmas.Option.{none-some}
 use Rattle.faults.specs.declared.cause.Cause.{Cause}
 use Rattle.faults.specs.declared.cause.Cause.TheVariants.{Field}
 use Rattle.sheets.specs.Lines.{blank}
@@ -8,16 +9,13 @@ use Rattle.sheets.specs.Sheet.{LegalLine, price_low, price_high, wrong_column, w
 use Rattle.sheets.specs.Text.{within}
 use Rattle.sheets.specs.declared.line.Line.{Line}
 
-pub no_cause : (c : Cause) → ◌≡◌ {A = Option Cause} (Some c) None → ⊥
-no_cause c e = let z : ◌≡◌ {A = ℕ} 0 1 = cc in omega arith
-
 no_column : (c : ℕ) → ◌≡◌ {A = Option ℕ} (Some c) None → ⊥
 no_column c e = let z : ◌≡◌ {A = ℕ} 0 1 = cc in omega arith
 
 -- a choice that came out as None took its first way
 pub first_way : (b : Bool) (o : Option Cause) (c : Cause) → cond b o (Some c) ≡ None → (b ≡ true) × (o ≡ None)
 first_way true o c e = (refl, e)
-first_way false o c e = absurd (no_cause c e)
+first_way false o c e = absurd (none-some c (sym e))
 
 column_none : (n : ℕ) (l : Line) → wrong_column n l ≡ None → LegalLine n l
 column_none n l e =
@@ -36,7 +34,7 @@ column_none n l e =
 
 or_none : (x : ℕ) (o : Option ℕ) (later : Option Cause) → wrong_or x o later ≡ None → (o ≡ None) × (later ≡ None)
 or_none x None later e = (refl, e)
-or_none x (Some c) later e = absurd (no_cause (Field (x + 2) c) e)
+or_none x (Some c) later e = absurd (none-some (Field (x + 2) c) (sym e))
 
 pub lines_none : (n x : ℕ) (ls : List Line) → wrong_line n x ls ≡ None → (k : ℕ) → k < length ls → LegalLine n (get_or ls k blank)
 lines_none n x [] e k h = absurd (omega arith)

@@ -1,10 +1,11 @@
 -- What the rule of splits comes to: a legal list cuts its side.
-use Rattle.std.proofs.Common.{◌≡◌, ℕ, zero, suc, ◌+◌, ◌-◌, ◌<◌, ◌≤◌, true, eqb, List, [], ◌∷◌, length, get_or, Some, None, Option, refl, subst, inl, inr, add-one, arith}
+use Rattle.std.proofs.Common.{◌≡◌, ℕ, zero, suc, ◌+◌, ◌-◌, ◌<◌, ◌≤◌, true, eqb, List, [], ◌∷◌, length, get_or, Some, None, Option, refl, subst, inl, inr, add-one, arith, sym}
 use Rattle.std.proofs.lemmas.Bool.{cases_Bool, and_parts, eqb-true}
 use Rattle.std.proofs.lemmas.Bool.Decides.{nat_tests}
 use Rattle.wrong_lists.specs.Lists.{wrong_from, Legal}
 use Rattle.splits.specs.Splits.{split_rule, Cuts}
-use Rattle.wrong_lists.proofs.Rules.{stands, no_some}
+use Rattle.std.proofs.lemmas.Option.{none-some}
+use Rattle.wrong_lists.proofs.Rules.{stands}
 
 -- what a number that may stand says of itself and of its index
 within_size : (size k : ℕ) (before : Option ℕ) (x : ℕ) → split_rule size k before (Some x) ≡ true → (x ≤ size) × (x < size → k < 32) × (k < 33)
@@ -27,7 +28,7 @@ tail : (size : ℕ) (xs : List ℕ) (k b : ℕ) → wrong_from (split_rule size)
 tail size [] k b e =
     record {
       rises = λ j l. absurd (omega arith);
-      last = elim (cases_Bool (eqb b size)) [ inl t ↦ eqb-true b size t | inr f ↦ absurd (no_some k (rw f at e)) ];
+      last = elim (cases_Bool (eqb b size)) [ inl t ↦ eqb-true b size t | inr f ↦ absurd (none-some k (sym (rw f at e))) ];
       short = λ h. omega arith;
     }
 tail size (x ∷ xs) k b e =
@@ -43,7 +44,7 @@ tail size (x ∷ xs) k b e =
 
 -- a legal list of a side that is not empty cuts it
 pub legal_cuts : (size : ℕ) (xs : List ℕ) → 0 < size → Legal (split_rule size) xs → Cuts size xs
-legal_cuts size [] h e = absurd (no_some 0 e)
+legal_cuts size [] h e = absurd (none-some 0 (sym e))
 legal_cuts size (x ∷ xs) h e =
     let s = stands (split_rule size) 0 None x xs e in
     let none : x ≡ 0 = eqb-true x 0 (and_parts (eqb 0 0) (eqb x 0) s.0).1 in

@@ -1,9 +1,10 @@
 -- What the rule of owners comes to: a legal table owns its blocks.
-use Rattle.std.proofs.Common.{◌≡◌, ℕ, zero, suc, ◌+◌, ◌<◌, eqb, ltb, List, [], ◌∷◌, length, get_or, Some, None, Option, inl, inr, arith}
+use Rattle.std.proofs.Common.{◌≡◌, ℕ, zero, suc, ◌+◌, ◌<◌, eqb, ltb, List, [], ◌∷◌, length, get_or, Some, None, Option, inl, inr, arith, sym}
 use Rattle.std.proofs.lemmas.Bool.{cases_Bool, and_parts, eqb-true, ltb-true}
 use Rattle.wrong_lists.specs.Lists.{wrong_from, Legal}
 use Rattle.splits.specs.Owners.{owner_rule, Owned}
-use Rattle.wrong_lists.proofs.Rules.{stands, no_some}
+use Rattle.std.proofs.lemmas.Option.{none-some}
+use Rattle.wrong_lists.proofs.Rules.{stands}
 
 record From (blocks boards k : ℕ) (xs : List ℕ) : Type 0 where
   long : k + length xs ≡ blocks
@@ -11,7 +12,7 @@ record From (blocks boards k : ℕ) (xs : List ℕ) : Type 0 where
 
 from : (blocks boards : ℕ) (xs : List ℕ) (k : ℕ) (before : Option ℕ) → wrong_from (owner_rule blocks boards) k before xs ≡ None → From blocks boards k xs
 from blocks boards [] k before e =
-    let same : k ≡ blocks = elim (cases_Bool (eqb k blocks)) [ inl t ↦ eqb-true k blocks t | inr f ↦ absurd (no_some k (rw f at e)) ] in
+    let same : k ≡ blocks = elim (cases_Bool (eqb k blocks)) [ inl t ↦ eqb-true k blocks t | inr f ↦ absurd (none-some k (sym (rw f at e))) ] in
     record { long = omega arith; below = λ b l. absurd (omega arith) }
 from blocks boards (x ∷ xs) k before e =
     let s = stands (owner_rule blocks boards) k before x xs e in

@@ -3,6 +3,7 @@ use Rattle.std.proofs.Common.{◌≡◌, ℕ, zero, suc, ◌+◌, ◌<◌, ◌�
 use Rattle.std.proofs.lemmas.Bool.{cases_Bool}
 use Rattle.std.proofs.lemmas.List.{at_drop_more, at_drop_all}
 use Rattle.std.specs.List.{slice_get}
+use Rattle.std.proofs.lemmas.Option.{none-some, same_Some}
 use Rattle.wrong_lists.specs.Lists.{RuleOf, wrong_from, first_wrong, Agree, WrongAt, Completes, WrongListsOf}
 
 -- what the law says of a list from index k on, its wrong index being k + d
@@ -10,16 +11,10 @@ record Wrong {A : Type 0} (may : RuleOf A) (k : ℕ) (before : Option A) (xs : L
   none : (ys : List A) → wrong_from may k before ys ≡ None → Agree xs ys d → ⊥
   earlier : (j : ℕ) → j < d → (ys : List A) × (wrong_from may k before ys ≡ None) × Agree xs ys j
 
-no_some : {A : Type 0} (x : A) → ◌≡◌ {A = Option A} None (Some x) → ⊥
-no_some x e = let z : ◌≡◌ {A = ℕ} 0 1 = cc in omega arith
-
-same_some : {A : Type 0} (x y : A) → ◌≡◌ {A = Option A} (Some x) (Some y) → x ≡ y
-same_some x y e = cc
-
 -- no list begins with an entry that the rule forbids there
 barred : {A : Type 0} (may : RuleOf A) (k : ℕ) (before : Option A) (ys : List A) → may k before (slice_get ys 0) ≡ false → wrong_from may k before ys ≡ None → ⊥
-barred may k before [] f e = no_some k (sym (rw f at e))
-barred may k before (y ∷ ys) f e = no_some k (sym (rw f at e))
+barred may k before [] f e = none-some k (sym (rw f at e))
+barred may k before (y ∷ ys) f e = none-some k (sym (rw f at e))
 
 wrong_here : {A : Type 0} (may : RuleOf A) (k : ℕ) (before : Option A) (xs : List A) → may k before (slice_get xs 0) ≡ false → Wrong may k before xs 0
 wrong_here may k before xs f =
@@ -43,9 +38,9 @@ legal_rest may k before x ys t = rw t refl
 
 module _ {A : Type 0} (may : RuleOf A) (c : Completes may) (k : ℕ) (before : Option A) (x : A) (xs : List A) (t : may k before (Some x) ≡ true) (d : ℕ) (w : Wrong may (k + 1) (Some x) xs d) where
   none_later : (ys : List A) → wrong_from may k before ys ≡ None → Agree (x ∷ xs) ys (suc d) → ⊥
-  none_later [] l a = no_some x (sym (a 0 (omega arith)))
+  none_later [] l a = none-some x (sym (a 0 (omega arith)))
   none_later (y ∷ ys) l a =
-      let same : x ≡ y = same_some x y (a 0 (omega arith)) in
+      let same : x ≡ y = same_Some x y (a 0 (omega arith)) in
       let l' : wrong_from may k before (x ∷ ys) ≡ None = subst (λ z. wrong_from may k before (z ∷ ys) ≡ None) (sym same) l in
       w.none ys (sym (legal_rest may k before x ys t) ∙ l') (λ j h. a (suc j) (omega arith))
 
@@ -62,15 +57,15 @@ found : {A : Type 0} (may : RuleOf A) → Completes may → (xs : List A) (k : �
     → (d : ℕ) × (i ≡ k + d) × Wrong may k before xs d
 found may c [] k before i e =
     elim (cases_Bool (may k before None)) [
-      | inl t ↦ absurd (no_some i (rw t at e))
-      | inr f ↦ (0, omega (arith, same_some k i (rw f at e)), wrong_here may k before [] f)
+      | inl t ↦ absurd (none-some i (rw t at e))
+      | inr f ↦ (0, omega (arith, same_Some k i (rw f at e)), wrong_here may k before [] f)
     ]
 found may c (x ∷ xs) k before i e =
     elim (cases_Bool (may k before (Some x))) [
       | inl t ↦
           (let r = found may c xs (k + 1) (Some x) i (sym (legal_rest may k before x xs t) ∙ e) in
           (suc r.0, omega (arith, r.1), wrong_later may c k before x xs t r.0 r.2))
-      | inr f ↦ (0, omega (arith, same_some k i (rw f at e)), wrong_here may k before (x ∷ xs) f)
+      | inr f ↦ (0, omega (arith, same_Some k i (rw f at e)), wrong_here may k before (x ∷ xs) f)
     ]
 
 pub wrong_lists : {A : Type 0} → WrongListsOf A

@@ -1,12 +1,6 @@
 use Rattle.std.proofs.Common.{arith}
-use Rattle.layouts.proofs.Layouts.{row_index, top_held, bottom_held, left_held, right_held, tall, wide, few, owner_held, one}
+use Rattle.layouts.proofs.Layouts.{top_held, bottom_held, left_held, right_held, tall, wide, owner_held, one}
 use Rattle.layouts.proofs.layout.Layout.block_at.Goals as goal
-
-pub bounds-tables-i : goal.bounds-tables-i
-bounds-tables-i c = omega (arith, row_index c.args.self.now c.args.number c.requires, c.args.self.now.down.1)
-
-pub bounds-tables-i-2 : goal.bounds-tables-i-2
-bounds-tables-i-2 c = omega (arith, row_index c.args.self.now c.args.number c.requires, c.args.self.now.down.1)
 
 pub overflow_sub-result : goal.overflow_sub-result
 overflow_sub-result c =
@@ -19,12 +13,6 @@ overflow_sub-result-2 c =
     let l = c.args.self.now in
     let b = c.args.number in
     omega (arith, left_held l b c.requires, right_held l b c.requires, wide l b c.requires)
-
-pub bounds-tables-number : goal.bounds-tables-number
-bounds-tables-number c = omega (arith, few c.args.self.now, c.requires)
-
-pub bounds-tables-number-2 : goal.bounds-tables-number-2
-bounds-tables-number-2 c = omega (arith, few c.args.self.now, c.requires)
 
 pub returns : goal.returns
 returns c =
