@@ -1,4 +1,4 @@
-use Rattle.std.proofs.Common.{◌≡◌, ◌+◌, ◌<◌, false, List, [], ◌++◌, sym, refl, ap, ◌∙◌, subst, arith}
+use Rattle.std.proofs.Common.{◌≡◌, ◌+◌, ◌<◌, false, List, ◌++◌, sym, ap, ◌∙◌, subst, arith}
 use Rattle.std.proofs.lemmas.List.{append-nil}
 use Rattle.std.proofs.lemmas.Bool.{and_from, both_ways, lt-ltb}
 use Rattle.std.specs.List.{AllByRecursion}
@@ -8,9 +8,6 @@ use Rattle.runs.specs.Runs.{Run, pieces}
 use Rattle.cursors.proofs.Stepping.{bounded_is, cells_few, is_cell, no_cell, none_left, stands_on, passed_on, skip_absent, skip_unwanted, step}
 use Rattle.cursors.proofs.step.next.Goals as goal
 use Rattle.cursors.proofs.step.next.Goals.{else-stands-via-then-stands+then-cell-sender+else-admits, else-stands-via-then-stands+else-cell-sender, else-stands-via-else-stands}
-
-pub loop-cell-init : goal.loop-cell-init
-loop-cell-init c = ([], refl, tt)
 
 pub run_at-requires : goal.run_at-requires
 run_at-requires c =
