@@ -1,22 +1,9 @@
 -- Lists of costs, row by row: what the rule of their list says.
-use Rattle.std.proofs.Common.{◌≡◌, ℕ, zero, suc, ◌+◌, ◌*◌, ◌^◌, ◌≤◌, ◌&&◌, eqb, ltb, leb, ◌≢◌, List, [], ◌∷◌, length, get_or, set, Some, None, Option, ap, inl, inr, arith, get_or-set_other, get_or-set_same, sym}
-use Rattle.std.proofs.lemmas.Bool.{cases_Bool, cases_eq, cases_lt, eqb-true, leb-true, and_parts}
-use Rattle.std.proofs.lemmas.List.{set_past}
+use Rattle.std.proofs.Common.{◌≡◌, ℕ, zero, suc, ◌+◌, ◌*◌, ◌^◌, ◌≤◌, ◌&&◌, eqb, ltb, leb, List, [], ◌∷◌, length, get_or, Some, None, Option, inl, inr, arith, sym}
+use Rattle.std.proofs.lemmas.Bool.{cases_Bool, eqb-true, leb-true, and_parts}
 use Rattle.wrong_lists.specs.Lists.{wrong_from}
 use Rattle.std.proofs.lemmas.Option.{none-some}
 use Rattle.assignment_costs.specs.Costs.{row_rule}
-
--- a write within the limit keeps a list within it
-pub capped_set : (xs : List ℕ) (i v m : ℕ) → ((k : ℕ) → get_or xs k 0 ≤ m) → v ≤ m → (k : ℕ) → get_or (set xs i v) k 0 ≤ m
-capped_set xs i v m h l k =
-    elim (cases_eq k i) [
-      | inl e ↦
-          elim (cases_lt i (length xs)) [
-            | inl b ↦ omega (arith, get_or-set_same xs i v 0 b, ap (λ j. get_or (set xs i v) j 0) e)
-            | inr b ↦ omega (arith, ap (λ ys. get_or ys k 0) (set_past xs i v b), h k)
-          ]
-      | inr d ↦ (let ne : k ≢ i = d in omega (arith, get_or-set_other xs i k v 0 ne, h k))
-    ]
 
 module _ (n : ℕ) where
   -- a list that is nowhere wrong is whole and within the limit

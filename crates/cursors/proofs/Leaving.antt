@@ -123,10 +123,6 @@ module _ (n rows columns : ℕ) (o : Overlay) (j : Joined n rows columns o) (m :
         ∙ ap (λ t. piece o m k (top o k + a) p ∷ (t ++ later o m i (k + 1))) rows
         ∙ ap (λ t. piece o m k (top o k + a) p ∷ t) (sym (enter (k + 1)))
 
-  -- the runs that are left in a cell, of the sender or not
-  in_cell : ℕ → ℕ → ℕ → List Run
-  in_cell k a p = cond (eqb (sender o k) i) (cell_rest o m k a p) []
-
   row_of : (k r q c : ℕ) → AllByRecursion (λ x. x.cell ≡ k) (span q c (λ p. piece o m k r p ∷ []))
   row_of k r q c = span_all (λ x. x.cell ≡ k) c q (λ p. piece o m k r p ∷ []) (λ p a b. (refl, tt))
 

@@ -1,11 +1,8 @@
 -- One step of a cursor over a drawing.
-use Rattle.std.proofs.Common.{◌≡◌, ℕ, ◌+◌, ◌-◌, ◌*◌, ◌/◌, ◌%◌, ◌<◌, ◌≤◌, min, true, false, cond, ◌&&◌, ltb, List, [], ◌∷◌, ◌++◌, Some, None, sym, ap, ◌∙◌, subst, inl, inr, append_assoc, arith}
+use Rattle.std.proofs.Common.{◌≡◌, ℕ, ◌+◌, ◌-◌, ◌*◌, ◌<◌, ◌≤◌, min, true, false, cond, ◌&&◌, ltb, List, [], ◌∷◌, ◌++◌, Some, None, sym, ap, ◌∙◌, subst, inl, inr, append_assoc, arith}
 use native.Mathlib.Nat.{sub-zero}
 use Rattle.std.proofs.lemmas.Bool.{and_parts, cases_Bool, cases_lt, cond-true, cond-false, lt-ltb, le-ltb, ltb-true, ltb-false}
-use Rattle.std.proofs.lemmas.Grind.{div_ceil_times}
-use Rattle.std.proofs.lemmas.Nat.{div-mul-add}
 use Rattle.std.proofs.lemmas.Option.{none-some}
-use Rattle.std.specs.Int.{div_ceil}
 use Rattle.std.specs.List.{AllByRecursion}
 use Rattle.faults.specs.declared.cause.Cause.{Cause}
 use Rattle.faults.specs.declared.cause.Cause.TheVariants.{Beyond}
@@ -23,15 +20,6 @@ use Rattle.cursors.specs.Steps.{On, advance, left_at, passes, run_at, run_of}
 use Rattle.cursors.specs.declared.cursor.Cursor.{Cursor}
 use Rattle.cursors.specs.declared.cursor.Wanted.{Wanted}
 use Rattle.cursors.proofs.Leaving.{enter, from_past, next_cell, next_piece, next_row, skip, skipped_in, skipped_none}
-
--- a row is cut into its width over the pieces' length, rounded up
-pub ceil_is : (w m : ℕ) → 1 ≤ m → div_ceil w m ≡ pieces w m
-ceil_is w m h =
-    let t = div_ceil_times w m h in
-    let q = w / m + min 1 (w % m) in
-    let r = w + (m - 1) - q * m in
-    let e : q * m + r ≡ w + (m - 1) = omega (arith, t) in
-    sym (div-mul-add q m r (omega (arith, t, h))) ∙ ap (λ x. x / m) e
 
 module _ (d : Drawing) where
   over_joined : Joined d.target.boards d.target.rows d.target.columns (overlay_of d)

@@ -6,10 +6,8 @@ use Rattle.drawings.specs.declared.drawing.Drawing.{Drawing}
 use Rattle.drawing_parts.specs.declared.lines.Line.{Line}
 use Rattle.drawing_parts.specs.declared.lines.Lines.{Lines}
 use Rattle.drawing_parts.specs.Parts.{Counted, Drawable, Named, elements_of, places, used, over, source_rows, source_columns}
-use Rattle.drawings.specs.Cells.{IsCellOf}
 use Rattle.drawings.specs.Drawings.{overlay_of, package_of, LawsOf}
-use Rattle.drawings.specs.Asking.{IsCell, IsCover}
-use Rattle.drawing_parts.specs.declared.cell.Cell.{Cell}
+use Rattle.drawings.specs.Asking.{IsCover}
 use Rattle.layouts.specs.declared.layout.Layout.{Layout}
 use Rattle.layouts.specs.Layouts.{grid_of, row_cuts, column_cuts, blocks_of}
 use Rattle.layouts.proofs.Layouts.{sound, column_spans}
@@ -170,11 +168,6 @@ module _ (d : Drawing) (k n : ℕ) (e : n ≡ k) where
   pub is_cover : (t s : ℕ) → t ≡ target_block (overlay_of d) n → s ≡ source_block (overlay_of d) n → IsCover d k t s
   is_cover t s f g =
       record { target = f ∙ ap (target_block (overlay_of d)) e; source = g ∙ ap (source_block (overlay_of d)) e; lies = λ r c v. (laws d).lies k r c v }
-
-  pub is_cell : (v : Cell) → IsCellOf (overlay_of d) n v → IsCell d k v
-  is_cell v w =
-      let u = subst (λ m. IsCellOf (overlay_of d) m v) e w in
-      record { top = u.top; left = u.left; height = u.height; width = u.width; role = u.role; sender = u.sender }
 
 pub package_most : (d : Drawing) (i j : ℕ) → package_of d i j ≤ 1048576
 package_most d i j =

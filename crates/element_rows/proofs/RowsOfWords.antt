@@ -1,9 +1,8 @@
 -- Rows of elements and their words, for any kind whose elements have w words each.
-use Rattle.std.proofs.Common.{◌≡◌, ℕ, zero, suc, ◌+◌, ◌-◌, ◌*◌, ◌/◌, ◌<◌, ◌≤◌, leb, List, [], ◌∷◌, ◌++◌, length, get_or, take, drop, set, sym, refl, ap, ◌∙◌, inl, inr, append_assoc, suc-mul, zero-mul, div-mul-le_self, add-one, arith, length-append}
-use borrow.Rule.Slice.PartMut.{put_mid}
-use Rattle.std.proofs.lemmas.Nat.{mul-le, le-div, div_below}
-use Rattle.std.proofs.lemmas.List.{take_more, take_at, drop_at, drop-drop, drop_more, length-take-le, flat_map_more, set-append_right}
-use Rattle.std.proofs.lemmas.Bool.{cases_lt, le-leb, lt-leb}
+use Rattle.std.proofs.Common.{◌≡◌, ℕ, zero, suc, ◌+◌, ◌-◌, ◌*◌, ◌/◌, ◌<◌, ◌≤◌, List, [], ◌∷◌, ◌++◌, length, get_or, take, drop, set, sym, refl, ap, ◌∙◌, inl, inr, append_assoc, suc-mul, zero-mul, div-mul-le_self, add-one, arith, length-append}
+use Rattle.std.proofs.lemmas.Nat.{mul-le, le-div}
+use Rattle.std.proofs.lemmas.List.{take_at, drop_at, drop-drop, drop_more, set-append_right}
+use Rattle.std.proofs.lemmas.Bool.{cases_lt}
 use Rattle.element_rows.specs.Rows.{words_of_row, row_of_words}
 
 -- the words of element k end before those of n elements do
@@ -18,39 +17,12 @@ pub outside : (l w k : ℕ) → 1 ≤ w → l / w ≤ k → l < k * w + w
 outside l w k p h =
     elim (cases_lt l (k * w + w)) [ inl s ↦ s | inr s ↦ absurd (omega (arith, le-div (suc k) l w p (omega (arith, suc-mul k w, s)))) ]
 
--- whether n elements of w words fit l words, by division
-pub fits_by_division : (l w n : ℕ) → 1 ≤ w → leb n (l / w) ≡ leb (n * w) l
-fits_by_division l w n p =
-    elim (cases_lt l (n * w)) [
-      | inl s ↦ lt-leb n (l / w) (div_below l w n p s) ∙ sym (lt-leb (n * w) l s)
-      | inr s ↦ le-leb n (l / w) (le-div n l w p s) ∙ sym (le-leb (n * w) l s)
-    ]
-
 module _ {E : Type 0} (words : E → List ℕ) (w : ℕ) (sized : (x : E) → length (words x) ≡ w) where
   pub length-words_of_row : (xs : List E) → length (words_of_row words xs) ≡ length xs * w
   length-words_of_row [] = sym (zero-mul w)
   length-words_of_row (x ∷ xs) =
       let h : length (words x) + length (words_of_row words xs) ≡ suc (length xs) * w = omega (arith, sized x, length-words_of_row xs, suc-mul (length xs) w) in
       length-append (words x) (words_of_row words xs) ∙ h
-
-  length_front : (row : List E) (k : ℕ) → k ≤ length row → length (words_of_row words (take k row)) ≡ k * w
-  length_front row k h = length-words_of_row (take k row) ∙ ap (λ n. n * w) (length-take-le k row h)
-
-  -- one more element is written after the words of k elements
-  pub pack_more : (row : List E) (buffer : List ℕ) (k : ℕ) (x : E) → k < length row → x ≡ get_or row k x
-      → put_mid (k * w) w (words_of_row words (take k row) ++ drop (k * w) buffer) (words x)
-      ≡ words_of_row words (take (k + 1) row) ++ drop (k * w + w) buffer
-  pack_more row buffer k x h e =
-      let p = words_of_row words (take k row) in
-      let l : length p ≡ k * w = length_front row k (omega arith) in
-      let step : p ++ words x ≡ words_of_row words (take (k + 1) row) =
-      flat_map_more words [] (take k row) x ∙ ap (words_of_row words) (ap (λ y. take k row ++ y ∷ []) e ∙ sym (take_more row k x h))
-      in
-      ap (λ t. t ++ (words x ++ drop w (drop (k * w) (p ++ drop (k * w) buffer)))) (take_at p (drop (k * w) buffer) (k * w) l)
-      ∙ ap (λ t. p ++ (words x ++ drop w t)) (drop_at p (drop (k * w) buffer) (k * w) l)
-      ∙ ap (λ t. p ++ (words x ++ t)) (drop-drop w (k * w) buffer)
-      ∙ sym (append_assoc p (words x) (drop (k * w + w) buffer))
-      ∙ ap (λ t. t ++ drop (k * w + w) buffer) step
 
   -- the words of element k stand where those of the k before it end
   pub words_at : (packed : List E) (rest : List ℕ) (k : ℕ) (d : E) → k < length packed

@@ -78,9 +78,6 @@ module _ (letter n rows columns : ℕ) (rs cs os : List ℕ) (e : make_refusal l
   framed : (frame_refusal letter n rows columns rs cs ≡ None) × (topmost (owners_cause (spans rs * spans cs) n os ∷ []) ≡ None)
   framed = topmost_none (frame_refusal letter n rows columns rs cs) (owners_cause (spans rs * spans cs) n os ∷ []) e
 
-  pub known_letter : letter_cause letter ≡ None
-  known_letter = (no_letter letter n rows columns rs cs framed.0).0
-
   pub buildable : Buildable n rows columns rs cs os
   buildable =
       let f = framed.0 in

@@ -1,33 +1,17 @@
 -- What the refusals come to once the first tests have passed.
-use Rattle.std.proofs.Common.{◌≡◌, ℕ, ◌<◌, ◌≤◌, Bool, true, false, List, Some, None, Option, sym, ap, ◌∙◌, arith}
+use Rattle.std.proofs.Common.{◌≡◌, ℕ, ◌<◌, ◌≤◌, Bool, true, false, List, None, arith}
 use Rattle.std.proofs.lemmas.Bool.Decides.{nat_tests}
-use Rattle.faults.specs.declared.cause.Cause.{Cause}
-use Rattle.faults.specs.declared.cause.Cause.TheVariants.{Nothing, Closed}
-use Rattle.faults.specs.declared.fault.Call.{Call}
-use Rattle.faults.specs.declared.fault.Fault.{Fault}
-use Rattle.faults.specs.declared.fault.Layer.{Layer}
 use Rattle.links.specs.Frames.{none_waits}
 use Rattle.links.specs.Refusals.{board_refusal, frame_refusal, buffer_refusal, put_refusal, look_refusal, drop_refusal}
 
 pub put_open : (n board len : ℕ) (o : Bool) → board < n → 1 ≤ len → len ≤ 64 → o ≡ true → put_refusal n o board len ≡ None
 put_open n board len o h1 h2 h3 h4 = grind (arith, nat_tests)
 
-pub put_closed : (n board len : ℕ) (o : Bool) → board < n → 1 ≤ len → len ≤ 64 → o ≡ false → put_refusal n o board len ≡ Some (Closed board)
-put_closed n board len o h1 h2 h3 h4 = grind (arith, nat_tests)
-
 pub look_some : (n board room : ℕ) (fs : List (List ℕ)) → board < n → 64 ≤ room → none_waits fs ≡ false → look_refusal n board room fs ≡ None
 look_some n board room fs h1 h2 h3 = grind (arith, nat_tests)
 
 pub drop_some : (n board : ℕ) (fs : List (List ℕ)) → board < n → none_waits fs ≡ false → drop_refusal n board fs ≡ None
 drop_some n board fs h1 h2 = grind (arith, nat_tests)
-
-pub drop_none : (n board : ℕ) (fs : List (List ℕ)) → board < n → none_waits fs ≡ true → drop_refusal n board fs ≡ Some (Nothing board)
-drop_none n board fs h1 h2 = grind (arith, nat_tests)
-
--- what `Answers` asks of an Err, from the fault that was made
-pub refused_by : {Same : Type 0} (o : Option Cause) (f : Fault) (l : Layer) (k : Call) (w : Cause) → o ≡ Some w
-    → f ≡ record { layer = l; call = k; cause = w } → Same → (o ≡ Some f.cause) × (f.layer ≡ l) × (f.call ≡ k) × Same
-refused_by o f l k w p e same = (p ∙ ap (λ (g : Fault). Some g.cause) (sym e), ap (λ (g : Fault). g.layer) e, ap (λ (g : Fault). g.call) e, same)
 
 -- what the shared checks let pass
 pub board_kept : (n board : ℕ) → board_refusal n board ≡ None → board < n

@@ -28,9 +28,6 @@ module _ (n rows columns : ℕ) (o : Overlay) (j : Joined n rows columns o) (f :
   first_row : (a : ℕ) → a < down o → Within o.row_lines a (get_or o.row_lines a 0)
   first_row a h = record { one = h; from = omega arith; to = (row_lines n rows columns o j).rises a (omega arith) }
 
-  first_column : (b : ℕ) → b < across o → Within o.column_lines b (get_or o.column_lines b 0)
-  first_column b h = record { one = h; from = omega arith; to = (column_lines n rows columns o j).rises b (omega arith) }
-
   -- along one row of the target
   along : (a : ℕ) → a < down o
       → sum_below columns (λ c. f (get_or o.row_lines a 0) c)

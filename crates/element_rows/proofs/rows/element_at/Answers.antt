@@ -1,7 +1,7 @@
-use Rattle.std.proofs.Common.{◌≡◌, ◌+◌, ◌-◌, ◌*◌, ◌/◌, ◌<◌, ◌≤◌, length, get_or, take, drop, Some, sym, ap, ◌∙◌, suc-mul, add-one, arith, length-append}
+use Rattle.std.proofs.Common.{◌≡◌, ◌+◌, ◌-◌, ◌*◌, ◌/◌, ◌≤◌, length, get_or, take, drop, Some, sym, ap, ◌∙◌, arith, length-append}
 use Rattle.std.proofs.lemmas.Option.{slice_get-get_or}
 use Rattle.element_rows.specs.Rows.{words_of_row}
-use Rattle.element_rows.proofs.RowsOfWords.{room, inside, outside, length-words_of_row, words_at}
+use Rattle.element_rows.proofs.RowsOfWords.{room, outside, length-words_of_row, words_at}
 use Rattle.element_rows.proofs.rows.element_at.Goals as goal
 
 pub returns-then-index-from-clause-kept : goal.returns-then-index-from-clause-kept

@@ -1,4 +1,4 @@
-use Rattle.std.proofs.Common.{◌*◌, ◌<◌, length, sym, refl, ap, ◌∙◌, arith, length-append, rules}
+use Rattle.std.proofs.Common.{◌*◌, ◌<◌, length, sym, ap, ◌∙◌, arith, length-append, rules}
 use Rattle.element_rows.specs.Rows.{words_of_row, row_of_words}
 use Rattle.element_rows.proofs.RowsOfWords.{length-words_of_row, round_trip}
 use Rattle.element_rows.proofs.rows.unpack.Goals as goal
