@@ -9,7 +9,7 @@ use Rattle.assignment_search.specs.declared.tree.Prices.{Prices}
 use Rattle.assignment_costs.specs.Costs.{cost_at}
 use Rattle.assignment.specs.Plans.{name_of, role_price, board_price, Certified}
 use Rattle.assignment_laws.specs.Judging.{Within}
-use Rattle.assignment_search.specs.Search.{val}
+use Rattle.assignment_search.specs.Search.{val, mate}
 use Rattle.assignment_search.specs.Trees.{Full}
 
 -- prices as integers
@@ -28,14 +28,14 @@ price_tight u w k l = omega (arith, ints)
 module _
     (c : Costs) (p : Prices) (m : Matching) (a : Assignment)
     (full : Full c p m)
-    (shown : (k : ℕ) → k < c.boards → (name_of a k ≡ val m.naming k) × (role_price a k ≡ pos (val p.roles k)) × (board_price a k ≡ neg_ℤ (pos (val p.discounts k)))) where
+    (shown : (k : ℕ) → k < c.boards → (name_of a k ≡ mate m.naming k) × (role_price a k ≡ pos (val p.roles k)) × (board_price a k ≡ neg_ℤ (pos (val p.discounts k)))) where
   pub shown_below : (x : ℕ) → x < c.boards → name_of a x < c.boards
   shown_below x l = omega (arith, (shown x l).0, full.matched.named x l)
 
   shown_tight : (x : ℕ) → x < c.boards → val p.roles x ≡ cost_at c x (name_of a x) + val p.discounts (name_of a x)
   shown_tight x l =
       let y : ℕ = name_of a x in
-      let own : val m.owner y ≡ x = ap (val m.owner) (shown x l).0 ∙ (full.matched.back x l (full.matched.named x l)).0 in
+      let own : mate m.owner y ≡ x = ap (mate m.owner) (shown x l).0 ∙ (full.matched.back x l (full.matched.named x l)).0 in
       subst (λ z. val p.roles z ≡ cost_at c z y + val p.discounts y) own
       (full.held y (shown_below x l) (λ q. omega (arith, c.most, shown_below x l)) (omega (arith, own, c.most)))
 
@@ -46,8 +46,8 @@ module _
             record {
               below = shown_below;
               apart = λ x y l k q.
-                  let same : val m.naming x ≡ val m.naming y = sym (shown x l).0 ∙ q ∙ (shown y k).0 in
-                  sym (full.matched.back x l (full.matched.named x l)).0 ∙ ap (val m.owner) same ∙ (full.matched.back y k (full.matched.named y k)).0;
+                  let same : mate m.naming x ≡ mate m.naming y = sym (shown x l).0 ∙ q ∙ (shown y k).0 in
+                  sym (full.matched.back x l (full.matched.named x l)).0 ∙ ap (mate m.owner) same ∙ (full.matched.back y k (full.matched.named y k)).0;
             };
         within = λ x l. (
           subst Within (sym (shown x l).1) (price_within (val p.roles x) (full.fair.low_roles x l)),

@@ -25,7 +25,7 @@ fn report(costs: &Costs, found: &Match) -> Assignment
     let mut boards = [0; 16];
     // One loop fills the three tables, which a chain for each would do in three.
     for x in 0..costs.boards {
-        naming[x] = found.matching.naming[x];
+        naming[x] = found.matching.naming[x].unwrap();
         roles[x] = found.prices.roles[x] as i64;
         boards[x] = -(found.prices.discounts[x] as i64);
     }

@@ -1,9 +1,9 @@
 -- The path switched board by board, from its end to the root.
-use Rattle.std.proofs.Common.{◌≡◌, ℕ, ◌<◌, ◌≤◌, sym, ap, ◌∙◌, subst, inl, inr, arith}
+use Rattle.std.proofs.Common.{◌≡◌, ℕ, ◌<◌, ◌≤◌, Some, None, slice_index_or, unwrap_or, sym, ap, ◌∙◌, subst, inl, inr, arith}
 use Rattle.std.proofs.lemmas.Bool.{cases_eq}
 use Rattle.assignment_search.specs.declared.tree.Matching.{Matching}
 use Rattle.assignment_search.specs.declared.tree.Tree.{Tree}
-use Rattle.assignment_search.specs.Search.{val, rank_of}
+use Rattle.assignment_search.specs.Search.{val, mate, rank_of}
 use Rattle.assignment_search.specs.Trees.{Matched}
 use Rattle.assignment_search.specs.Paths.{Nearer, Route, Pairs, Freed, Switching, Given}
 
@@ -15,7 +15,7 @@ module _ (n root : ℕ) (most : n ≤ 16) (m : Matching) (t : Tree) (e : ℕ) (s
     pairs_given : (hole : ℕ) → Pairs n m t j hole
     pairs_given hole y l d h =
         elim (cases_eq y b) [
-          | inl q ↦ inr (ap (val j.owner) q ∙ g.owner ∙ ap (val t.way) (sym q), omega (arith, s.inside, ap (rank_of t) q))
+          | inl q ↦ inr (ap (mate j.owner) q ∙ g.owner ∙ ap (val t.way) (sym q), omega (arith, s.inside, ap (rank_of t) q))
           | inr f ↦
               elim (s.pairs y l f (omega (arith, g.owners y f))) [
                 | inl o ↦ inl (g.owners y f ∙ o)
@@ -26,73 +26,73 @@ module _ (n root : ℕ) (most : n ≤ 16) (m : Matching) (t : Tree) (e : ℕ) (s
     freed_given : (hole : ℕ) → x₀ < n → Freed n m j hole
     freed_given hole a y l d h =
         elim (cases_eq y b) [
-          | inl q ↦ absurd (omega (arith, ap (val j.owner) q, g.owner))
+          | inl q ↦ absurd (omega (arith, ap (mate j.owner) q, g.owner))
           | inr f ↦ s.freed y l f (omega (arith, g.owners y f))
         ]
 
     module _ (near : Nearer n m t b x₀) where
       abbrev q₀ : ℕ
-      q₀ = val k.naming x₀
+      q₀ = mate k.naming x₀
 
-      q₀_is : q₀ ≡ val m.naming x₀
+      q₀_is : q₀ ≡ mate m.naming x₀
       q₀_is = s.kept x₀ near.below near.named near.earlier
 
       q₀_below : q₀ < n
       q₀_below = omega (arith, q₀_is, near.named)
 
-      q₀_rank : rank_of t q₀ ≡ rank_of t (val m.naming x₀)
+      q₀_rank : rank_of t q₀ ≡ rank_of t (mate m.naming x₀)
       q₀_rank = ap (rank_of t) q₀_is
 
       apart : b ≡ q₀ → ⊥
       apart q = omega (arith, ap (rank_of t) q, q₀_rank, near.earlier)
 
-      named_more : (x : ℕ) → x < root → val j.naming x < n
+      named_more : (x : ℕ) → x < root → mate j.naming x < n
       named_more x l =
           elim (cases_eq x x₀) [
-            | inl q ↦ omega (arith, ap (val j.naming) q, g.naming, s.board)
+            | inl q ↦ omega (arith, ap (mate j.naming) q, g.naming, s.board)
             | inr d ↦ omega (arith, g.names x d, s.matched.named x l)
           ]
 
-      unnamed_more : (x : ℕ) → root ≤ x → x < n → val j.naming x ≡ 16
+      unnamed_more : (x : ℕ) → root ≤ x → x < n → mate j.naming x ≡ 16
       unnamed_more x l a =
           elim (cases_eq x x₀) [
-            | inl q ↦ absurd (omega (arith, ap (val k.naming) q, s.matched.unnamed x l a, q₀_below))
+            | inl q ↦ absurd (omega (arith, ap (mate k.naming) q, s.matched.unnamed x l a, q₀_below))
             | inr d ↦ g.names x d ∙ s.matched.unnamed x l a
           ]
 
-      back_more : (x : ℕ) → x < n → val j.naming x < n → (val j.owner (val j.naming x) ≡ x) × (val j.naming x ≡ q₀ → ⊥)
+      back_more : (x : ℕ) → x < n → mate j.naming x < n → (mate j.owner (mate j.naming x) ≡ x) × (mate j.naming x ≡ q₀ → ⊥)
       back_more x l a =
           elim (cases_eq x x₀) [
             | inl q ↦
-                (let own : val j.naming x ≡ b = ap (val j.naming) q ∙ g.naming in
-                (ap (val j.owner) own ∙ g.owner ∙ sym q, λ z. apart (sym own ∙ z)))
+                (let own : mate j.naming x ≡ b = ap (mate j.naming) q ∙ g.naming in
+                (ap (mate j.owner) own ∙ g.owner ∙ sym q, λ z. apart (sym own ∙ z)))
             | inr d ↦
-                (let own : val j.naming x ≡ val k.naming x = g.names x d in
+                (let own : mate j.naming x ≡ mate k.naming x = g.names x d in
                 let old = s.matched.back x l (omega (arith, own, a)) in (
-                  ap (val j.owner) own ∙ g.owners (val k.naming x) old.1 ∙ old.0,
+                  ap (mate j.owner) own ∙ g.owners (mate k.naming x) old.1 ∙ old.0,
                   λ z.
-                      let same : val k.owner (val k.naming x) ≡ val k.owner q₀ = ap (val k.owner) (sym own ∙ z) in
+                      let same : mate k.owner (mate k.naming x) ≡ mate k.owner q₀ = ap (mate k.owner) (sym own ∙ z) in
                       d (sym old.0 ∙ same ∙ (s.matched.back x₀ near.below q₀_below).0),
                 ))
           ]
 
-      forth_more : (y : ℕ) → y < n → (y ≡ q₀ → ⊥) → val j.owner y < 16 → (val j.owner y < n) × (val j.naming (val j.owner y) ≡ y)
+      forth_more : (y : ℕ) → y < n → (y ≡ q₀ → ⊥) → mate j.owner y < 16 → (mate j.owner y < n) × (mate j.naming (mate j.owner y) ≡ y)
       forth_more y l d h =
           elim (cases_eq y b) [
             | inl q ↦
-                (let own : val j.owner y ≡ x₀ = ap (val j.owner) q ∙ g.owner in
-                (omega (arith, own, near.below), ap (val j.naming) own ∙ g.naming ∙ sym q))
+                (let own : mate j.owner y ≡ x₀ = ap (mate j.owner) q ∙ g.owner in
+                (omega (arith, own, near.below), ap (mate j.naming) own ∙ g.naming ∙ sym q))
             | inr f ↦
-                (let own : val j.owner y ≡ val k.owner y = g.owners y f in
+                (let own : mate j.owner y ≡ mate k.owner y = g.owners y f in
                 let old = s.matched.forth y l f (omega (arith, own, h)) in
-                let other : val k.owner y ≡ x₀ → ⊥ = λ z. d (sym old.1 ∙ ap (val k.naming) z) in
-                (omega (arith, own, old.0), ap (val j.naming) own ∙ g.names (val k.owner y) other ∙ old.1))
+                let other : mate k.owner y ≡ x₀ → ⊥ = λ z. d (sym old.1 ∙ ap (mate k.naming) z) in
+                (omega (arith, own, old.0), ap (mate j.naming) own ∙ g.names (mate k.owner y) other ∙ old.1))
           ]
 
-      kept_more : (x : ℕ) → x < n → val m.naming x < n → rank_of t (val m.naming x) < rank_of t q₀ → val j.naming x ≡ val m.naming x
+      kept_more : (x : ℕ) → x < n → mate m.naming x < n → rank_of t (mate m.naming x) < rank_of t q₀ → mate j.naming x ≡ mate m.naming x
       kept_more x l a r =
           elim (cases_eq x x₀) [
-            | inl q ↦ absurd (omega (arith, ap (λ z. rank_of t (val m.naming z)) q, q₀_rank, r))
+            | inl q ↦ absurd (omega (arith, ap (λ z. rank_of t (mate m.naming z)) q, q₀_rank, r))
             | inr d ↦ g.names x d ∙ s.kept x l a (omega (arith, r, q₀_rank, near.earlier))
           ]
 
@@ -108,13 +108,12 @@ module _ (n root : ℕ) (most : n ≤ 16) (m : Matching) (t : Tree) (e : ℕ) (s
           }
 
   -- the same, for a role that is known to be the way
-  pub switching_step : (k : Matching) (b x : ℕ) → Switching n m root t k b → x ≡ val t.way b → (x ≡ root → ⊥) → (j : Matching) → Given k x b j
-      → Switching n m root t j (val k.naming x) × (rank_of t (val k.naming x) < rank_of t b)
-  switching_step k b x s e d j g =
+  pub switching_step : (k : Matching) (b x y : ℕ) → Switching n m root t k b → x ≡ val t.way b → (x ≡ root → ⊥) → slice_index_or k.naming x None ≡ Some y → (j : Matching) → Given k x b j
+      → Switching n m root t j y
+  switching_step k b x y s e d is j g =
       let g' : Given k (val t.way b) b j = subst (λ z. Given k z b j) e g in
       elim (route.steps b s.board s.inside) [
         | inl q ↦ absurd (d (e ∙ q))
         | inr near ↦
-            subst (λ z. Switching n m root t j (val k.naming z) × (rank_of t (val k.naming z) < rank_of t b)) (sym e)
-            (switching_more k b s j g' near, omega (arith, q₀_rank k b s j g' near, near.earlier))
+            subst (Switching n m root t j) (ap (mate k.naming) (sym e) ∙ ap (λ o. unwrap_or o 16) is) (switching_more k b s j g' near)
       ]

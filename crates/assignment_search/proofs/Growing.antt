@@ -1,5 +1,5 @@
 -- One step of the tree's growth: its next board joins it, and the board's role offers ways to the others.
-use Rattle.std.proofs.Common.{◌≡◌, ℕ, zero, suc, ◌+◌, ◌*◌, ◌^◌, ◌<◌, ◌≤◌, cond, eqb, ◌⊎◌, slice_index_or, None, sym, refl, ap, ◌∙◌, subst, inl, inr, arith}
+use Rattle.std.proofs.Common.{◌≡◌, ℕ, zero, suc, ◌+◌, ◌*◌, ◌^◌, ◌<◌, ◌≤◌, cond, eqb, ◌⊎◌, slice_index_or, Some, None, unwrap_or, sym, refl, ap, ◌∙◌, subst, inl, inr, arith}
 use Rattle.std.proofs.lemmas.Bool.{cases_eq, cases_lt, eq-eqb, ne_eqb, cond-true, cond-false}
 use Rattle.assignment_laws.specs.Namings.{total, Permutation}
 use Rattle.assignment_laws.proofs.Totals.{total_same, total_put, put, put_same, put_other, no_gap}
@@ -8,7 +8,7 @@ use Rattle.assignment_search.specs.declared.tree.Matching.{Matching}
 use Rattle.assignment_search.specs.declared.tree.Prices.{Prices}
 use Rattle.assignment_search.specs.declared.tree.Tree.{Tree}
 use Rattle.assignment_costs.specs.Costs.{cost_at}
-use Rattle.assignment_search.specs.Search.{val, count_of, rank_of, Relaxed, IsPartial, Nearest, Planted}
+use Rattle.assignment_search.specs.Search.{val, mate, count_of, rank_of, Relaxed, IsPartial, Nearest, Planted}
 use Rattle.assignment_search.specs.Trees.{Matched, Fair, From, Rooted, unused, Grown, Joined}
 
 -- one board fewer is outside the tree
@@ -27,14 +27,14 @@ module _ (c : Costs) (p : Prices) (m : Matching) (root : ℕ) (known : Matched c
   no_hole y l e = omega (arith, c.most)
 
   -- while a role has no board, not every board is held
-  pub some_free : root < c.boards → ((y : ℕ) → y < c.boards → val m.owner y < 16) → ⊥
+  pub some_free : root < c.boards → ((y : ℕ) → y < c.boards → mate m.owner y < 16) → ⊥
   some_free l h =
-      let below : (y : ℕ) → y < c.boards → val m.owner y < c.boards = λ y b. (known.forth y b (no_hole y b) (h y b)).0 in
-      let named : (y : ℕ) → y < c.boards → val m.naming (val m.owner y) ≡ y = λ y b. (known.forth y b (no_hole y b) (h y b)).1 in
-      let perm : Permutation c.boards (val m.owner) =
-      record { below = below; apart = λ y z a b e. sym (named y a) ∙ ap (val m.naming) e ∙ named z b } in
-      no_gap c.boards root (val m.owner) perm l
-      (λ y b e. omega (arith, c.most, known.unnamed root (omega arith) l, ap (val m.naming) e, named y b))
+      let below : (y : ℕ) → y < c.boards → mate m.owner y < c.boards = λ y b. (known.forth y b (no_hole y b) (h y b)).0 in
+      let named : (y : ℕ) → y < c.boards → mate m.naming (mate m.owner y) ≡ y = λ y b. (known.forth y b (no_hole y b) (h y b)).1 in
+      let perm : Permutation c.boards (mate m.owner) =
+      record { below = below; apart = λ y z a b e. sym (named y a) ∙ ap (mate m.naming) e ∙ named z b } in
+      no_gap c.boards root (mate m.owner) perm l
+      (λ y b e. omega (arith, c.most, known.unnamed root (omega arith) l, ap (mate m.naming) e, named y b))
 
   module _ (fair : Fair c p m) (t : Tree) (e step : ℕ) (g : Grown c p m root t e step) (s : Tree) (j : Joined t e step s) where
     abbrev n : ℕ
@@ -59,21 +59,21 @@ module _ (c : Costs) (p : Prices) (m : Matching) (root : ℕ) (known : Matched c
     -- the way to a board, once the next board has joined
     from_joined : (y : ℕ) → y < n → (x : ℕ) → From c p m t y x → From c p m s y x
     from_joined y l x f =
-        let own = stays_inside (val m.naming x) f.inside in
+        let own = stays_inside (mate m.naming x) f.inside in
         record {
           below = f.below;
           named = f.named;
           inside = omega (arith, own, f.inside);
           earlier =
               elim (cases_eq y e) [
-                | inl q ↦ inr (omega (arith, own, g.ranks (val m.naming x) f.named, j.here, ap (rank_of s) q))
+                | inl q ↦ inr (omega (arith, own, g.ranks (mate m.naming x) f.named, j.here, ap (rank_of s) q))
                 | inr d ↦
                     elim f.earlier [
                       | inl z ↦ inl (j.others y d ∙ z)
                       | inr k ↦ inr (omega (arith, own, k, j.others y d))
                     ]
               ];
-          length = omega (arith, f.length, joined_distance y, joined_distance (val m.naming x));
+          length = omega (arith, f.length, joined_distance y, joined_distance (mate m.naming x));
         }
 
     abbrev Way : Tree → ℕ → Type 0
@@ -89,15 +89,15 @@ module _ (c : Costs) (p : Prices) (m : Matching) (root : ℕ) (known : Matched c
         ]
 
     -- the last board of the path, which nobody holds, joins
-    module _ (free : 16 ≤ val m.owner e) where
+    module _ (free : 16 ≤ mate m.owner e) where
       pub rooted_last : Rooted c p m root s e
       rooted_last =
           record {
             short_root = λ y l. omega (arith, g.rooted.short_root y l, joined_distance y);
             short = λ x y a b k h.
-                elim (was (val m.naming x) h) [
-                  | inl q ↦ absurd (omega (arith, c.most, ap (val m.owner) q, (known.back x a k).0))
-                  | inr i ↦ omega (arith, g.rooted.short x y a b k i, joined_distance y, joined_distance (val m.naming x))
+                elim (was (mate m.naming x) h) [
+                  | inl q ↦ absurd (omega (arith, c.most, ap (mate m.owner) q, (known.back x a k).0))
+                  | inr i ↦ omega (arith, g.rooted.short x y a b k i, joined_distance y, joined_distance (mate m.naming x))
                 ];
             from = way_joined;
             inside = λ y l h.
@@ -112,18 +112,22 @@ module _ (c : Costs) (p : Prices) (m : Matching) (root : ℕ) (known : Matched c
                 ];
           }
 
-      pub held_last : (y : ℕ) → y < n → 0 < rank_of s y → (y ≡ e) ⊎ (val m.owner y < 16)
+      pub held_last : (y : ℕ) → y < n → 0 < rank_of s y → (y ≡ e) ⊎ (mate m.owner y < 16)
       held_last y l h = elim (was y h) [ inl q ↦ inl q | inr i ↦ inr (g.held y l i) ]
 
-    module _ (h : val m.owner e < 16) (r : Tree) (w : Relaxed c p (val m.owner e) (val s.distance e) s r) where
-      abbrev x₀ : ℕ
-      x₀ = val m.owner e
+    -- the role x₀ that holds the board offers its ways
+    module _ (x₀ : ℕ) (is : slice_index_or m.owner e None ≡ Some x₀) (r : Tree) (w : Relaxed c p x₀ (val s.distance e) s r) where
+      x₀_own : mate m.owner e ≡ x₀
+      x₀_own = ap (λ o. unwrap_or o 16) is
+
+      e_held : mate m.owner e < 16
+      e_held = omega (arith, x₀_own, m.owner_below e x₀ is)
 
       x₀_below : x₀ < n
-      x₀_below = (known.forth e g.end (no_hole e g.end) h).0
+      x₀_below = omega (arith, x₀_own, (known.forth e g.end (no_hole e g.end) e_held).0)
 
-      x₀_named : val m.naming x₀ ≡ e
-      x₀_named = (known.forth e g.end (no_hole e g.end) h).1
+      x₀_named : mate m.naming x₀ ≡ e
+      x₀_named = ap (mate m.naming) (sym x₀_own) ∙ (known.forth e g.end (no_hole e g.end) e_held).1
 
       same_rank : (y : ℕ) → rank_of r y ≡ rank_of s y
       same_rank y = ap (λ l. count_of (slice_index_or l y None)) w.joined
@@ -179,28 +183,28 @@ module _ (c : Costs) (p : Prices) (m : Matching) (root : ℕ) (known : Matched c
                 ]
           ]
 
-      short_more : (x y : ℕ) → x < n → y < n → val m.naming x < n → 0 < rank_of r (val m.naming x)
-          → val r.distance y + val p.roles x ≤ val r.distance (val m.naming x) + cost_at c x y + val p.discounts y
+      short_more : (x y : ℕ) → x < n → y < n → mate m.naming x < n → 0 < rank_of r (mate m.naming x)
+          → val r.distance y + val p.roles x ≤ val r.distance (mate m.naming x) + cost_at c x y + val p.discounts y
       short_more x y a b k i =
-          let i' : 0 < rank_of s (val m.naming x) = omega (arith, same_rank (val m.naming x), i) in
-          elim (was (val m.naming x) i') [
+          let i' : 0 < rank_of s (mate m.naming x) = omega (arith, same_rank (mate m.naming x), i) in
+          elim (was (mate m.naming x) i') [
             | inl q ↦
-                (let own : x ≡ x₀ = sym (known.back x a k).0 ∙ ap (val m.owner) q in
-                subst (λ z. val r.distance y + val p.roles z ≤ val r.distance (val m.naming x) + cost_at c z y + val p.discounts y) (sym own)
+                (let own : x ≡ x₀ = sym (known.back x a k).0 ∙ ap (mate m.owner) q ∙ x₀_own in
+                subst (λ z. val r.distance y + val p.roles z ≤ val r.distance (mate m.naming x) + cost_at c z y + val p.discounts y) (sym own)
                 (omega (arith, short_here y b, ap (val r.distance) q)))
-            | inr o ↦ omega (arith, g.rooted.short x y a b k o, shrinks y b, inside_same (val m.naming x) k i')
+            | inr o ↦ omega (arith, g.rooted.short x y a b k o, shrinks y b, inside_same (mate m.naming x) k i')
           ]
 
       -- a way that stays
       from_kept : (y x : ℕ) → y < n → val r.distance y ≡ val s.distance y → From c p m s y x → From c p m r y x
       from_kept y x l d f =
-          let own = same_rank (val m.naming x) in
+          let own = same_rank (mate m.naming x) in
           record {
             below = f.below;
             named = f.named;
             inside = omega (arith, own, f.inside);
             earlier = elim f.earlier [ inl z ↦ inl (same_rank y ∙ z) | inr k ↦ inr (omega (arith, own, k, same_rank y)) ];
-            length = omega (arith, f.length, d, inside_same (val m.naming x) f.named f.inside, joined_distance (val m.naming x));
+            length = omega (arith, f.length, d, inside_same (mate m.naming x) f.named f.inside, joined_distance (mate m.naming x));
           }
 
       way_kept : (y : ℕ) → y < n → val r.distance y ≡ val s.distance y → val r.way y ≡ val s.way y → Way r y
@@ -232,10 +236,10 @@ module _ (c : Costs) (p : Prices) (m : Matching) (root : ℕ) (known : Matched c
                 ]
           ]
 
-      held_more : (y : ℕ) → y < n → 0 < rank_of r y → val m.owner y < 16
+      held_more : (y : ℕ) → y < n → 0 < rank_of r y → mate m.owner y < 16
       held_more y l i =
           elim (was y (omega (arith, same_rank y, i))) [
-            | inl q ↦ omega (arith, ap (val m.owner) q)
+            | inl q ↦ omega (arith, ap (mate m.owner) q, e_held)
             | inr k ↦ g.held y l k
           ]
 
@@ -295,7 +299,7 @@ grown_first c p m root t a e near =
       rooted =
           record {
             short_root = λ y l. omega (arith, a.distance y l);
-            short = λ x y k l b i. absurd (omega (arith, i, a.rank (val m.naming x)));
+            short = λ x y k l b i. absurd (omega (arith, i, a.rank (mate m.naming x)));
             from = λ y l. inl (a.way y (omega (arith, c.most)), a.distance y l);
             inside = λ y l i. absurd (omega (arith, i, a.rank y));
             outside = near.least;

@@ -6,7 +6,7 @@ use Rattle.assignment_search.specs.declared.tree.Matching.{Matching}
 use Rattle.assignment_search.specs.declared.tree.Prices.{Prices}
 use Rattle.assignment_search.specs.declared.tree.Tree.{Tree}
 use Rattle.assignment_costs.specs.Costs.{cost_at}
-use Rattle.assignment_search.specs.Search.{val, rank_of}
+use Rattle.assignment_search.specs.Search.{val, mate, rank_of}
 use Rattle.assignment_search.specs.Trees.{Matched, Fair, Held, Found}
 use Rattle.assignment_search.specs.Paths.{gap_of, rise_of, Settled, Route, Switched}
 
@@ -17,11 +17,11 @@ gap_outside t far y z = cond-true (eqb (rank_of t y) 0) 0 (far - val t.distance 
 gap_inside : (t : Tree) (far y : ℕ) → 0 < rank_of t y → gap_of t far y ≡ far - val t.distance y
 gap_inside t far y i = cond-false (eqb (rank_of t y) 0) 0 (far - val t.distance y) (ne_eqb (rank_of t y) 0 (λ z. omega arith))
 
-rise_named : (m : Matching) (t : Tree) (far x : ℕ) → val m.naming x < 16 → rise_of m t far x ≡ gap_of t far (val m.naming x)
-rise_named m t far x l = cond-true (ltb (val m.naming x) 16) (gap_of t far (val m.naming x)) 0 (lt-ltb (val m.naming x) 16 l)
+rise_named : (m : Matching) (t : Tree) (far x : ℕ) → mate m.naming x < 16 → rise_of m t far x ≡ gap_of t far (mate m.naming x)
+rise_named m t far x l = cond-true (ltb (mate m.naming x) 16) (gap_of t far (mate m.naming x)) 0 (lt-ltb (mate m.naming x) 16 l)
 
-rise_unnamed : (m : Matching) (t : Tree) (far x : ℕ) → val m.naming x ≡ 16 → rise_of m t far x ≡ 0
-rise_unnamed m t far x e = cond-false (ltb (val m.naming x) 16) (gap_of t far (val m.naming x)) 0 (le-ltb (val m.naming x) 16 (omega arith))
+rise_unnamed : (m : Matching) (t : Tree) (far x : ℕ) → mate m.naming x ≡ 16 → rise_of m t far x ≡ 0
+rise_unnamed m t far x e = cond-false (ltb (mate m.naming x) 16) (gap_of t far (mate m.naming x)) 0 (le-ltb (mate m.naming x) 16 (omega arith))
 
 module _
     (c : Costs) (p q : Prices) (m : Matching) (root : ℕ) (t : Tree) (e : ℕ)
@@ -51,25 +51,25 @@ module _
             (let up = s.roles x a d in
             elim (cases_lt x root) [
               | inl l ↦
-                  (let named : val m.naming x < c.boards = known.named x l in
-                  let rise : rise_of m t far x ≡ gap_of t far (val m.naming x) = rise_named m t far x (omega (arith, c.most)) in
-                  elim (cases_lt 0 (rank_of t (val m.naming x))) [
+                  (let named : mate m.naming x < c.boards = known.named x l in
+                  let rise : rise_of m t far x ≡ gap_of t far (mate m.naming x) = rise_named m t far x (omega (arith, c.most)) in
+                  elim (cases_lt 0 (rank_of t (mate m.naming x))) [
                     | inl i ↦
                         omega (
                           arith,
                           up,
                           rise,
-                          gap_inside t far (val m.naming x) i,
-                          leaves (val p.roles x) (val t.distance (val m.naming x)) x y b (f.rooted.inside (val m.naming x) named i)
+                          gap_inside t far (mate m.naming x) i,
+                          leaves (val p.roles x) (val t.distance (mate m.naming x)) x y b (f.rooted.inside (mate m.naming x) named i)
                               (f.rooted.short x y a b named i),
                         )
-                    | inr z ↦ omega (arith, up, rise, gap_outside t far (val m.naming x) (omega arith), fair.feasible x y a b, s.boards y b)
+                    | inr z ↦ omega (arith, up, rise, gap_outside t far (mate m.naming x) (omega arith), fair.feasible x y a b, s.boards y b)
                   ])
               | inr l ↦ omega (arith, up, rise_unnamed m t far x (known.unnamed x l a), fair.feasible x y a b, s.boards y b)
             ])
       ]
 
-  free_more : (y : ℕ) → y < c.boards → 16 ≤ val m.owner y → val q.discounts y ≡ 0
+  free_more : (y : ℕ) → y < c.boards → 16 ≤ mate m.owner y → val q.discounts y ≡ 0
   free_more y l h =
       elim (cases_lt 0 (rank_of t y)) [
         | inl i ↦
@@ -83,19 +83,19 @@ module _
   held_more : Held c q m 16
   held_more y l d h =
       let own = known.forth y l d h in
-      let other : val m.owner y ≡ root → ⊥ = λ z. omega (arith, c.most, own.1, ap (val m.naming) z, known.unnamed root (omega arith) low) in
-      let rise : rise_of m t far (val m.owner y) ≡ gap_of t far y = rise_named m t far (val m.owner y) (omega (arith, c.most, own.1)) ∙ ap (gap_of t far) own.1 in
-      omega (arith, s.roles (val m.owner y) own.0 other, s.boards y l, rise, held y l d h)
+      let other : mate m.owner y ≡ root → ⊥ = λ z. omega (arith, c.most, own.1, ap (mate m.naming) z, known.unnamed root (omega arith) low) in
+      let rise : rise_of m t far (mate m.owner y) ≡ gap_of t far y = rise_named m t far (mate m.owner y) (omega (arith, c.most, own.1)) ∙ ap (gap_of t far) own.1 in
+      omega (arith, s.roles (mate m.owner y) own.0 other, s.boards y l, rise, held y l d h)
 
   low_roles_more : (x : ℕ) → x < c.boards → val q.roles x ≤ 2 ^ 44
   low_roles_more x l = omega (arith, feasible_more x e l f.end, free_more e f.end f.free, c.capped (x * 16 + e))
 
   low_boards_more : (y : ℕ) → y < c.boards → val q.discounts y ≤ 2 ^ 44
   low_boards_more y l =
-      elim (cases_lt (val m.owner y) 16) [
+      elim (cases_lt (mate m.owner y) 16) [
         | inl h ↦
             (let in_table : y ≡ 16 → ⊥ = λ z. omega (arith, c.most) in
-            omega (arith, held_more y l in_table h, low_roles_more (val m.owner y) (known.forth y l in_table h).0))
+            omega (arith, held_more y l in_table h, low_roles_more (mate m.owner y) (known.forth y l in_table h).0))
         | inr h ↦ omega (arith, free_more y l h)
       ]
 
@@ -108,13 +108,13 @@ module _
             subst (λ z. val q.roles z ≡ cost_at c z y + val q.discounts y) (sym o.0)
             (omega (arith, root_rise, s.boards y l, gap_inside t far y i, o.1, fall))
         | inr w ↦
-            (let other : val t.way y ≡ root → ⊥ = λ z. omega (arith, c.most, w.named, ap (val m.naming) z, known.unnamed root (omega arith) low) in
+            (let other : val t.way y ≡ root → ⊥ = λ z. omega (arith, c.most, w.named, ap (mate m.naming) z, known.unnamed root (omega arith) low) in
             omega (
               arith,
               s.roles (val t.way y) w.below other,
               rise_named m t far (val t.way y) (omega (arith, c.most, w.named)),
-              gap_inside t far (val m.naming (val t.way y)) w.inside,
-              f.rooted.inside (val m.naming (val t.way y)) w.named w.inside,
+              gap_inside t far (mate m.naming (val t.way y)) w.inside,
+              f.rooted.inside (mate m.naming (val t.way y)) w.named w.inside,
               s.boards y l,
               gap_inside t far y i,
               w.length,

@@ -1,11 +1,13 @@
 -- What the search for a least naming keeps true. Assumes nothing.
 --     val xs k        the entry of a table at k
+--     mate xs k       the number in a table of Options at k, 16 for None
+--     IsBelow xs      the numbers in a table of Options are below 16
 --     rank_of t y     the step at which board y joined the tree, counted from 1, and 0 for a board outside it
 --     IsPartial       some board is outside the tree
 --     Nearest         a board outside the tree that no other one there is nearer than
 --     Offered         a board of the tree after it may be reached from one more role
 --     Relaxed         the tree after every board outside it may be reached from one more role
-use Rattle.std.specs.Prelude.{◌≡◌, ℕ, ◌+◌, ◌<◌, ◌≤◌, ◌⊎◌, List, Some, None, Option, ◌≢◌, slice_index, slice_index_or}
+use Rattle.std.specs.Prelude.{◌≡◌, ℕ, ◌+◌, ◌<◌, ◌≤◌, ◌⊎◌, List, Some, None, Option, ◌≢◌, slice_index, slice_index_or, unwrap_or}
 use Rattle.assignment_costs.specs.declared.costs.Costs.{Costs}
 use Rattle.assignment_search.specs.declared.tree.Prices.{Prices}
 use Rattle.assignment_search.specs.declared.tree.Tree.{Tree}
@@ -13,6 +15,12 @@ use Rattle.assignment_costs.specs.Costs.{cost_at}
 
 abbrev pub val : List ℕ → ℕ → ℕ
 val xs k = slice_index xs k
+
+abbrev pub mate : List (Option ℕ) → ℕ → ℕ
+mate xs k = unwrap_or (slice_index_or xs k None) 16
+
+abbrev pub IsBelow : List (Option ℕ) → Type 0
+IsBelow xs = (k x : ℕ) → slice_index_or xs k None ≡ Some x → x < 16
 
 abbrev pub count_of : Option ℕ → ℕ
 count_of None = 0

@@ -1,7 +1,7 @@
 // Putting a shortest path to use: the prices rise, and its roles take their new boards.
 ghost use Rattle.std.specs.Prelude.{◌≡◌, ℕ, ◌+◌, ◌*◌, ◌^◌, ◌<◌, ◌≤◌};
 ghost use Rattle.assignment_search.specs.Paths.{gap_of, rise_of, Settled, Route, Switched, Given};
-ghost use Rattle.assignment_search.specs.Search.{val, rank_of};
+ghost use Rattle.assignment_search.specs.Search.{val, mate, rank_of};
 ghost use Rattle.assignment_search.specs.Trees.{Matched};
 
 use crate::tree::{Matching, Prices, Tree};
@@ -47,7 +47,7 @@ impl Path {
         root: usize,
     )
         requires root { root < costs.now.boards }
-        requires named { (x : ℕ) → x < costs.now.boards → val matching.now.naming x < 16 → val matching.now.naming x < costs.now.boards }
+        requires named { (x : ℕ) → x < costs.now.boards → mate matching.now.naming x < 16 → mate matching.now.naming x < costs.now.boards }
         requires roles { (x : ℕ) → x < costs.now.boards → val prices.old.roles x ≤ 2 ^ 44 }
         requires discounts { (y : ℕ) → y < costs.now.boards → val prices.old.discounts y ≤ 2 ^ 44 }
         ensures { Settled costs.now.boards matching.now root self.now.tree (val self.now.tree.distance self.now.end) prices.old prices.new }
@@ -58,14 +58,13 @@ impl Path {
     }
 
     fn raise_roles(&self, costs: &Costs, prices: &mut Prices, matching: &Matching)
-        requires named { (x : ℕ) → x < costs.now.boards → val matching.now.naming x < 16 → val matching.now.naming x < costs.now.boards }
+        requires named { (x : ℕ) → x < costs.now.boards → mate matching.now.naming x < 16 → mate matching.now.naming x < costs.now.boards }
         requires roles { (x : ℕ) → x < costs.now.boards → val prices.old.roles x ≤ 2 ^ 44 }
         ensures raised { (x : ℕ) → x < costs.now.boards → val prices.new.roles x ≡ val prices.old.roles x + rise_of matching.now self.now.tree (val self.now.tree.distance self.now.end) x }
         ensures same { prices.new.discounts ≡ prices.old.discounts }
     {
         for x in 0..costs.boards {
-            let board = matching.naming[x];
-            if board < 16 {
+            if let Some(board) = matching.naming[x] {
                 prices.roles[x] += self.gap(board);
             }
         }
@@ -91,7 +90,7 @@ impl Path {
         let mut board = self.end;
         let mut role = self.tree.way[board];
         while role != root {
-            let next = matching.naming[role];
+            let next = matching.naming[role].unwrap();
             give(matching, role, board);
             board = next;
             role = self.tree.way[board];
@@ -106,6 +105,6 @@ fn give(matching: &mut Matching, role: usize, board: usize)
     requires board { board < 16 }
     ensures { Given matching.old role board matching.new }
 {
-    matching.owner[board] = role;
-    matching.naming[role] = board;
+    matching.owner[board] = Some(role);
+    matching.naming[role] = Some(board);
 }

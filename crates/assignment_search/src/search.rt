@@ -41,9 +41,9 @@ impl<'a> Search<'a> {
         let mut tree = self.plant();
         let mut end = nearest(self.costs.boards, &tree);
         let mut step = 0;
-        while self.matching.owner[end] < 16 {
+        while let Some(role) = self.matching.owner[end] {
             join(&mut tree, end, step);
-            self.relax(self.matching.owner[end], tree.distance[end], &mut tree);
+            self.relax(role, tree.distance[end], &mut tree);
             end = nearest(self.costs.boards, &tree);
             step += 1;
         }

@@ -17,8 +17,8 @@ pub fn search_naming(costs: &Costs) -> Match
             discounts: [0; 16],
         },
         matching: Matching {
-            owner: [16; 16],
-            naming: [16; 16],
+            owner: [None; 16],
+            naming: [None; 16],
         },
         placed: 0,
     };

@@ -1,5 +1,9 @@
-use Rattle.assignment_search.proofs.Starting.{matched_first, fair_first, held_first}
+use Rattle.std.proofs.Common.{refl}
+use Rattle.assignment_search.proofs.Starting.{matched_first, fair_first}
 use Rattle.assignment_search.proofs.solving.search_naming.Goals as goal
 
-pub invariant_of-search : goal.invariant_of-search
-invariant_of-search c = record { matched = matched_first c.args.costs.now; fair = fair_first c.args.costs.now; held = held_first c.args.costs.now }
+pub invariant_of-search-2-clause-matched : goal.invariant_of-search-2-clause-matched
+invariant_of-search-2-clause-matched c = matched_first c.args.costs.now _ refl refl
+
+pub invariant_of-search-2-clause-fair : goal.invariant_of-search-2-clause-fair
+invariant_of-search-2-clause-fair c = fair_first c.args.costs.now _ refl refl

@@ -1,4 +1,5 @@
-use Rattle.std.proofs.Common.{◌+◌, arith}
+use Rattle.std.proofs.Common.{◌+◌, ◌≤◌, unwrap_or, ap, arith}
+use Rattle.assignment_search.specs.Search.{mate}
 use Rattle.assignment_search.proofs.Growing.{grown_first, grown_more, low_more, partial_more, rooted_last, held_last}
 use Rattle.assignment_search.proofs.search.Search.grow.Goals as goal
 
@@ -8,8 +9,8 @@ loop-end-init c =
     c.nearest-end.result
     c.nearest-end.ensures
 
-pub nearest-end-requires-in-loop-end : goal.nearest-end-requires-in-loop-end
-nearest-end-requires-in-loop-end c =
+pub nearest-end-requires-in-Some : goal.nearest-end-requires-in-Some
+nearest-end-requires-in-Some c =
     record {
       most = omega (arith, c.args.self.now.costs.now.most);
       low =
@@ -19,7 +20,8 @@ nearest-end-requires-in-loop-end c =
           c.loop-end.invariant
           c.join.new.tree
           c.join.ensures
-          c.loop-end-test.true
+          c.in-Some.role
+          c.in-Some.is
           c.relax.new.tree
           c.relax.ensures;
       outside =
@@ -29,7 +31,8 @@ nearest-end-requires-in-loop-end c =
           c.loop-end.invariant
           c.join.new.tree
           c.join.ensures
-          c.loop-end-test.true
+          c.in-Some.role
+          c.in-Some.is
           c.relax.new.tree
           c.relax.ensures
           c.requires;
@@ -43,20 +46,22 @@ loop-end-preserved c =
     c.loop-end.invariant
     c.join.new.tree
     c.join.ensures
-    c.loop-end-test.true
+    c.in-Some.role
+    c.in-Some.is
     c.relax.new.tree
     c.relax.ensures
-    c.nearest-end-in-loop-end.result
-    c.nearest-end-in-loop-end.ensures
+    c.nearest-end-in-Some.result
+    c.nearest-end-in-Some.ensures
 
 pub loop-end-smaller : goal.loop-end-smaller
 loop-end-smaller c = omega (arith, (loop-end-preserved c).count, c.loop-end.invariant.count)
 
 pub returns : goal.returns
 returns c =
+    let free : 16 ≤ mate c.args.self.now.matching.owner c.loop-end.end = omega (arith, ap (λ o. unwrap_or o 16) c.in_default.is) in
     record {
       end = c.loop-end.invariant.end;
-      free = c.loop-end-test.false;
+      free = free;
       end_inside = omega (arith, c.join-2.ensures.here);
       rooted =
           rooted_last c.args.self.now.costs.now c.args.self.now.prices c.args.self.now.matching c.args.self.now.placed c.args.self.now.matched c.args.self.now.fair c.loop-end.tree
@@ -65,7 +70,7 @@ returns c =
           c.loop-end.invariant
           c.join-2.new.tree
           c.join-2.ensures
-          c.loop-end-test.false;
+          free;
       held =
           held_last c.args.self.now.costs.now c.args.self.now.prices c.args.self.now.matching c.args.self.now.placed c.args.self.now.matched c.args.self.now.fair c.loop-end.tree
           c.loop-end.end
@@ -73,5 +78,5 @@ returns c =
           c.loop-end.invariant
           c.join-2.new.tree
           c.join-2.ensures
-          c.loop-end-test.false;
+          free;
     }
