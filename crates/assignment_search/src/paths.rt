@@ -1,7 +1,7 @@
 // Putting a shortest path to use: the prices rise, and its roles take their new boards.
 ghost use Rattle.std.specs.Prelude.{◌≡◌, ℕ, ◌+◌, ◌*◌, ◌^◌, ◌<◌, ◌≤◌};
 ghost use Rattle.assignment_search.specs.Paths.{gap_of, rise_of, Settled, Route, Switched, Given};
-ghost use Rattle.assignment_search.specs.Search.{val, mate, rank_of};
+ghost use Rattle.assignment_search.specs.Search.{val, rank_of};
 ghost use Rattle.assignment_search.specs.Trees.{Matched};
 
 use crate::tree::{Matching, Prices, Tree};
@@ -47,7 +47,6 @@ impl Path {
         root: usize,
     )
         requires root { root < costs.now.boards }
-        requires named { (x : ℕ) → x < costs.now.boards → mate matching.now.naming x < 16 → mate matching.now.naming x < costs.now.boards }
         requires roles { (x : ℕ) → x < costs.now.boards → val prices.old.roles x ≤ 2 ^ 44 }
         requires discounts { (y : ℕ) → y < costs.now.boards → val prices.old.discounts y ≤ 2 ^ 44 }
         ensures { Settled costs.now.boards matching.now root self.now.tree (val self.now.tree.distance self.now.end) prices.old prices.new }
@@ -58,7 +57,6 @@ impl Path {
     }
 
     fn raise_roles(&self, costs: &Costs, prices: &mut Prices, matching: &Matching)
-        requires named { (x : ℕ) → x < costs.now.boards → mate matching.now.naming x < 16 → mate matching.now.naming x < costs.now.boards }
         requires roles { (x : ℕ) → x < costs.now.boards → val prices.old.roles x ≤ 2 ^ 44 }
         ensures raised { (x : ℕ) → x < costs.now.boards → val prices.new.roles x ≡ val prices.old.roles x + rise_of matching.now self.now.tree (val self.now.tree.distance self.now.end) x }
         ensures same { prices.new.discounts ≡ prices.old.discounts }
