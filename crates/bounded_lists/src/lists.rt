@@ -55,11 +55,7 @@ pub fn check_list(list: &[u32], len: usize, head: usize, high: u32, low: u32) ->
         low,
     };
     match first_wrong(&rule, list) {
-        Some(index) => Err(Fault::new(
-            Layer::Tariffs,
-            Call::Make,
-            Cause::Beyond { index },
-        )),
+        Some(index) => Err(Fault::new(Layer::Tariffs, Call::Make, Cause::Beyond { index })),
         None => Ok(()),
     }
 }

@@ -45,11 +45,7 @@ pub fn check_boards(boards: usize) -> Result<(), Fault>
     ensures answer { Answers Layer.Tariffs Call.Make (boards_refusal boards) result (λ _. Unit {0}) (Unit {0}) }
 {
     if boards < 1 || boards > MOST_BOARDS {
-        return Err(Fault::new(
-            Layer::Tariffs,
-            Call::Make,
-            Cause::Board { number: boards },
-        ));
+        return Err(Fault::new(Layer::Tariffs, Call::Make, Cause::Board { number: boards }));
     }
     Ok(())
 }

@@ -13,8 +13,8 @@ returns-then-index-from-clause-kept g c =
     let beyond : length xs / w ≤ k = omega (arith, ap (λ n. length xs / n) c.size-size.ensures.value, c.if-index-from.true) in
     let short = outside (length xs) w k g.met.E.Element.least beyond in
     λ packed rest e l.
-        absurd
-        (omega (arith, short, ap length e ∙ length-append (words_of_row words packed) rest, length-words_of_row words w g.met.E.Element.sized packed, room k (length packed) w l))
+    absurd
+    (omega (arith, short, ap length e ∙ length-append (words_of_row words packed) rest, length-words_of_row words w g.met.E.Element.sized packed, room k (length packed) w l))
 
 pub returns-clause-kept : goal.returns-clause-kept
 returns-clause-kept g c =
@@ -30,9 +30,9 @@ returns-clause-kept g c =
     ∙ ap (λ n. back (take w (drop (k * n) xs))) c.size-size.ensures.value
     in
     λ packed rest e l.
-        ap Some
-        (value
-        ∙ ap (λ t. back (take w (drop (k * w) t))) e
-        ∙ ap back (words_at words w g.met.E.Element.sized packed rest k c.read.result l)
-        ∙ g.met.E.Element.kept (get_or packed k c.read.result))
-        ∙ sym (slice_get-get_or packed k c.read.result l)
+    ap Some
+    (value
+    ∙ ap (λ t. back (take w (drop (k * w) t))) e
+    ∙ ap back (words_at words w g.met.E.Element.sized packed rest k c.read.result l)
+    ∙ g.met.E.Element.kept (get_or packed k c.read.result))
+    ∙ sym (slice_get-get_or packed k c.read.result l)

@@ -9,8 +9,8 @@ returns-then-not-fits-clause-kept g c =
     let words = g.E.Element.words in
     let short : length c.args.from.now < length c.args.row.now * w = search rules in
     λ packed rest e l.
-        absurd
-        (omega (arith, short, ap length e ∙ length-append (words_of_row words packed) rest, length-words_of_row words w g.met.E.Element.sized packed, ap (λ n. n * w) l))
+    absurd
+    (omega (arith, short, ap length e ∙ length-append (words_of_row words packed) rest, length-words_of_row words w g.met.E.Element.sized packed, ap (λ n. n * w) l))
 
 pub returns-clause-kept : goal.returns-clause-kept
 returns-clause-kept g c =
@@ -18,7 +18,7 @@ returns-clause-kept g c =
     let words = g.E.Element.words in
     let back = g.E.Element.back in
     λ packed rest e l.
-        c.read_row.ensures.after
-        ∙ ap (λ n. row_of_words back w n c.args.from.now) (sym l)
-        ∙ ap (row_of_words back w (length packed)) e
-        ∙ round_trip words back w g.met.E.Element.sized g.met.E.Element.kept packed rest
+    c.read_row.ensures.after
+    ∙ ap (λ n. row_of_words back w n c.args.from.now) (sym l)
+    ∙ ap (row_of_words back w (length packed)) e
+    ∙ round_trip words back w g.met.E.Element.sized g.met.E.Element.kept packed rest
