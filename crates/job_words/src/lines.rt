@@ -4,7 +4,7 @@ ghost use Rattle.std.specs.Str.{IsUtf8};
 ghost use Rattle.job_words.specs.declared.lines.Unread.TheVariants.{NoMemory};
 ghost use Rattle.job_words.specs.Lines.{Line};
 
-use std::alloc::{AllocError, Global};
+use std::alloc::{AllocError, AllocFailed, Global};
 use std::str::from_utf8;
 
 // Why a line has no words.
@@ -18,6 +18,14 @@ impl From<AllocError> for Unread {
     ghost from_gives = { λ _ e. e ≡ NoMemory };
 
     fn from(_e: AllocError) -> Unread {
+        Unread::NoMemory
+    }
+}
+
+impl<T: Drop> From<AllocFailed<T>> for Unread {
+    ghost from_gives = { λ _ e. e ≡ NoMemory };
+
+    fn from(_e: AllocFailed<T>) -> Unread {
         Unread::NoMemory
     }
 }

@@ -1,4 +1,6 @@
 // A job while its items are read.
+ghost use Rattle.std.specs.Prelude.{◌≤◌, IfErr};
+
 use crate::item::{Item, Part};
 use crate::job::{Alpha, Job, LayoutText, TariffText};
 use crate::line::Line;
@@ -191,7 +193,9 @@ impl Draft {
     }
 
     // The job, or the first mistake of the whole text, which ends before the line `after`.
-    pub(crate) fn finish<'a>(self, after: Line) -> Result<Job, Mistake<'a>> {
+    pub(crate) fn finish<'a>(self, after: Line) -> Result<Job, Mistake<'a>>
+        ensures line { IfErr result (λ m. 1 ≤ m.line) }
+    {
         let Whole {
             job,
             kind,

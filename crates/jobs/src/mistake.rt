@@ -1,5 +1,6 @@
 // Mistakes in the text of a job.
-ghost use Rattle.std.specs.Prelude.{◌≡◌, ◌≤◌};
+ghost use Rattle.std.specs.Prelude.{◌≡◌};
+ghost use Rattle.jobs.specs.declared.mistake.Wrong.TheVariants.{NoMemory};
 
 use crate::item::Item;
 use crate::line::Line;
@@ -83,12 +84,16 @@ impl<'a> From<Unread> for Wrong<'a> {
 }
 
 impl<'a> From<AllocError> for Wrong<'a> {
+    ghost from_gives = { λ _ e. e ≡ NoMemory };
+
     fn from(_e: AllocError) -> Wrong<'a> {
         Wrong::NoMemory
     }
 }
 
 impl<'a, T: Drop> From<AllocFailed<T>> for Wrong<'a> {
+    ghost from_gives = { λ _ e. e ≡ NoMemory };
+
     fn from(_e: AllocFailed<T>) -> Wrong<'a> {
         Wrong::NoMemory
     }
@@ -99,7 +104,6 @@ impl<'a, T: Drop> From<AllocFailed<T>> for Wrong<'a> {
 pub struct Mistake<'a> {
     pub line: usize,
     pub wrong: Wrong<'a>,
-    ghost counted: { 1 ≤ line },
 }
 
 impl<'a> Mistake<'a> {

@@ -19,7 +19,7 @@ pub(crate) fn one_number<'a, N: Number>(item: Item, words: &[&'a str]) -> Result
     }
 }
 
-pub(crate) fn two_numbers<'a, N: Number>(
+pub(crate) fn two_numbers<'a, N: Number + Drop>(
     item: Item,
     words: &[&'a str],
 ) -> Result<(N, N), Wrong<'a>> {
@@ -32,7 +32,7 @@ pub(crate) fn two_numbers<'a, N: Number>(
     }
 }
 
-pub(crate) fn list<'a, N: Number>(
+pub(crate) fn list<'a, N: Number + Drop>(
     heap: Global,
     item: Item,
     words: &[&'a str],
