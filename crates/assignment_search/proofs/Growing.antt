@@ -8,7 +8,7 @@ use Rattle.assignment_search.specs.declared.tree.Matching.{Matching}
 use Rattle.assignment_search.specs.declared.tree.Prices.{Prices}
 use Rattle.assignment_search.specs.declared.tree.Tree.{Tree}
 use Rattle.assignment_costs.specs.Costs.{cost_at}
-use Rattle.assignment_search.specs.Search.{val, mate, count_of, rank_of, Relaxed, IsPartial, Nearest, Planted}
+use Rattle.assignment_search.specs.Search.{val, mate, IsBelow, count_of, rank_of, Relaxed, IsPartial, Nearest, Planted}
 use Rattle.assignment_search.specs.Trees.{Matched, Fair, From, Rooted, unused, Grown, Joined}
 
 -- one board fewer is outside the tree
@@ -116,12 +116,12 @@ module _ (c : Costs) (p : Prices) (m : Matching) (root : ℕ) (known : Matched c
       held_last y l h = elim (was y h) [ inl q ↦ inl q | inr i ↦ inr (g.held y l i) ]
 
     -- the role x₀ that holds the board offers its ways
-    module _ (x₀ : ℕ) (is : slice_index_or m.owner e None ≡ Some x₀) (r : Tree) (w : Relaxed c p x₀ (val s.distance e) s r) where
+    module _ (x₀ : ℕ) (is : slice_index_or m.owner e None ≡ Some x₀) (below : IsBelow m.owner) (r : Tree) (w : Relaxed c p x₀ (val s.distance e) s r) where
       x₀_own : mate m.owner e ≡ x₀
       x₀_own = ap (λ o. unwrap_or o 16) is
 
       e_held : mate m.owner e < 16
-      e_held = omega (arith, x₀_own, m.owner_below e x₀ is)
+      e_held = omega (arith, x₀_own, below e x₀ is)
 
       x₀_below : x₀ < n
       x₀_below = omega (arith, x₀_own, (known.forth e g.end (no_hole e g.end) e_held).0)

@@ -1,7 +1,7 @@
 // Putting a shortest path to use: the prices rise, and its roles take their new boards.
 ghost use Rattle.std.specs.Prelude.{◌≡◌, ℕ, ◌+◌, ◌*◌, ◌^◌, ◌<◌, ◌≤◌};
 ghost use Rattle.assignment_search.specs.Paths.{gap_of, rise_of, Settled, Route, Switched, Given};
-ghost use Rattle.assignment_search.specs.Search.{val, rank_of};
+ghost use Rattle.assignment_search.specs.Search.{val, rank_of, IsBelow};
 ghost use Rattle.assignment_search.specs.Trees.{Matched};
 
 use crate::tree::{Matching, Prices, Tree};
@@ -47,6 +47,7 @@ impl Path {
         root: usize,
     )
         requires root { root < costs.now.boards }
+        requires below { IsBelow matching.now.naming }
         requires roles { (x : ℕ) → x < costs.now.boards → val prices.old.roles x ≤ 2 ^ 44 }
         requires discounts { (y : ℕ) → y < costs.now.boards → val prices.old.discounts y ≤ 2 ^ 44 }
         ensures { Settled costs.now.boards matching.now root self.now.tree (val self.now.tree.distance self.now.end) prices.old prices.new }
@@ -57,6 +58,7 @@ impl Path {
     }
 
     fn raise_roles(&self, costs: &Costs, prices: &mut Prices, matching: &Matching)
+        requires below { IsBelow matching.now.naming }
         requires roles { (x : ℕ) → x < costs.now.boards → val prices.old.roles x ≤ 2 ^ 44 }
         ensures raised { (x : ℕ) → x < costs.now.boards → val prices.new.roles x ≡ val prices.old.roles x + rise_of matching.now self.now.tree (val self.now.tree.distance self.now.end) x }
         ensures same { prices.new.discounts ≡ prices.old.discounts }
@@ -81,9 +83,13 @@ impl Path {
     // Gives each board of the path from its end to `root` to the role from which it was reached.
     pub(crate) fn switch(&self, costs: &Costs, matching: &mut Matching, root: usize)
         requires root { root < costs.now.boards }
+        requires owners { IsBelow matching.old.owner }
+        requires names { IsBelow matching.old.naming }
         requires matched { Matched costs.now.boards root matching.old 16 }
         requires route { Route costs.now.boards matching.old root self.now.tree self.now.end }
-        ensures { Switched costs.now.boards matching.old root self.now.tree matching.new }
+        ensures switched { Switched costs.now.boards matching.old root self.now.tree matching.new }
+        ensures owners { IsBelow matching.new.owner }
+        ensures names { IsBelow matching.new.naming }
     {
         let mut board = self.end;
         let mut role = self.tree.way[board];
@@ -101,7 +107,11 @@ impl Path {
 fn give(matching: &mut Matching, role: usize, board: usize)
     requires role { role < 16 }
     requires board { board < 16 }
-    ensures { Given matching.old role board matching.new }
+    requires owners { IsBelow matching.old.owner }
+    requires names { IsBelow matching.old.naming }
+    ensures given { Given matching.old role board matching.new }
+    ensures owners { IsBelow matching.new.owner }
+    ensures names { IsBelow matching.new.naming }
 {
     matching.owner[board] = Some(role);
     matching.naming[role] = Some(board);

@@ -1,7 +1,7 @@
 // The search for a least naming: each role in turn takes a board, along a shortest path.
 ghost use Rattle.std.specs.Prelude.{◌≡◌, ℕ, ◌+◌, ◌*◌, ◌^◌, ◌<◌, ◌≤◌, length};
 ghost use Rattle.assignment_costs.specs.Costs.{cost_at};
-ghost use Rattle.assignment_search.specs.Search.{val, Offered, Relaxed, IsPartial, Nearest, Planted};
+ghost use Rattle.assignment_search.specs.Search.{val, IsBelow, Offered, Relaxed, IsPartial, Nearest, Planted};
 ghost use Rattle.assignment_search.specs.Trees.{Matched, Fair, Held, Found, Joined};
 
 use crate::paths::Path;
@@ -15,6 +15,8 @@ pub(crate) struct Search<'a> {
     pub(crate) prices: Prices,
     pub(crate) matching: Matching,
     pub(crate) placed: usize,
+    ghost owners_below: { IsBelow matching.owner },
+    ghost names_below: { IsBelow matching.naming },
     ghost matched: { Matched costs.now.boards placed matching 16 },
     ghost fair: { Fair costs.now prices matching },
     ghost held: { Held costs.now prices matching 16 },

@@ -1,5 +1,4 @@
 // What the search works on, and what it finds.
-ghost use Rattle.assignment_search.specs.Search.{IsBelow};
 
 // Prices of the roles, and discounts of the boards: a board's price is its discount below zero.
 #[derive(Clone, Copy)]
@@ -13,8 +12,6 @@ pub struct Prices {
 pub struct Matching {
     pub owner: [Option<usize>; 16],
     pub naming: [Option<usize>; 16],
-    ghost owner_below: { IsBelow owner },
-    ghost naming_below: { IsBelow naming },
 }
 
 // The tree of shortest paths over boards: how far each is from the root, the role from which it is

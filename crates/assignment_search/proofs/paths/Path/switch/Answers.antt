@@ -14,9 +14,16 @@ loop-role-preserved c = (
       c.loop-role-test.true
       c.unwrap-next.ensures
       c.give.new.matching
-      c.give.ensures,
+      c.give.ensures.given,
   refl,
+  c.give.ensures.owners,
+  c.give.ensures.names,
 )
 
 pub returns : goal.returns
-returns c = record { matched = record { named = search rules; unnamed = search rules; back = search rules; forth = search rules }; pairs = search rules; freed = search rules }
+returns c =
+    record {
+      switched = record { matched = record { named = search rules; unnamed = search rules; back = search rules; forth = search rules }; pairs = search rules; freed = search rules };
+      owners = c.give-2.ensures.owners;
+      names = c.give-2.ensures.names;
+    }

@@ -22,6 +22,7 @@ nearest-end-requires-in-Some c =
           c.join.ensures
           c.in-Some.role
           c.in-Some.is
+          c.args.self.now.owners_below
           c.relax.new.tree
           c.relax.ensures;
       outside =
@@ -33,6 +34,7 @@ nearest-end-requires-in-Some c =
           c.join.ensures
           c.in-Some.role
           c.in-Some.is
+          c.args.self.now.owners_below
           c.relax.new.tree
           c.relax.ensures
           c.requires;
@@ -48,6 +50,7 @@ loop-end-preserved c =
     c.join.ensures
     c.in-Some.role
     c.in-Some.is
+    c.args.self.now.owners_below
     c.relax.new.tree
     c.relax.ensures
     c.nearest-end-in-Some.result

@@ -4,7 +4,9 @@ use Rattle.assignment_search.proofs.search.Search.place.Goals as goal
 pub invariant_of-self : goal.invariant_of-self
 invariant_of-self c =
     record {
-      matched = c.switch.ensures.matched;
+      owners_below = c.switch.ensures.owners;
+      names_below = c.switch.ensures.names;
+      matched = c.switch.ensures.switched.matched;
       fair =
           fair_next c.args.self.now.costs.now c.args.self.now.prices c.settle.new.prices c.args.self.now.matching c.args.self.now.placed
           c.grow-path.result.tree
@@ -16,7 +18,7 @@ invariant_of-self c =
           c.grow-path.ensures
           c.settle.ensures
           c.switch.new.matching
-          c.switch.ensures;
+          c.switch.ensures.switched;
       held =
           held_next c.args.self.now.costs.now c.args.self.now.prices c.settle.new.prices c.args.self.now.matching c.args.self.now.placed
           c.grow-path.result.tree
@@ -28,5 +30,5 @@ invariant_of-self c =
           c.grow-path.ensures
           c.settle.ensures
           c.switch.new.matching
-          c.switch.ensures;
+          c.switch.ensures.switched;
     }
