@@ -1,7 +1,7 @@
 -- Costs and proposals that agree below n are judged alike.
 use Rattle.std.proofs.Common.{◌≡◌, ℕ, zero, suc, ◌<◌, Bool, cond, ◌||◌, eqb, leb, pos, ◌+ℤ◌, Some, None, Option, sym, refl, ap, ◌∙◌, arith}
 use lib.Signed.{lt_z}
-use Rattle.assignment_laws.specs.Namings.{bill_of}
+use Rattle.assignment_laws.specs.Namings.{bill_of, Least}
 use Rattle.assignment_laws.specs.Judging.{Proposal, Certified, first_of, first_below, any_below, misnamed, beyond, unpriced, unfit, unfair, wrong_bill, wrong_role}
 use Rattle.assignment_laws.proofs.Certificates.{fit_permute}
 use Rattle.assignment_laws.proofs.Totals.{total_same}
@@ -93,3 +93,6 @@ module _
         tight = λ x l. sym (price_same k.permutation.below x l) ∙ k.tight x l ∙ ap pos (cost_same k.permutation.below x l);
         bill = sym bill ∙ k.bill ∙ bill_same k.permutation.below;
       }
+
+pub least_same : (cost dost : ℕ → ℕ → ℕ) (n b : ℕ) → ((x y : ℕ) → x < n → y < n → cost x y ≡ dost x y) → Least cost n b → Least dost n b
+least_same cost dost n b same l τ p = omega (arith, l τ p, total_same (λ x. cost x (τ x)) (λ x. dost x (τ x)) n (λ x m. same x (τ x) m (p.below x m)))

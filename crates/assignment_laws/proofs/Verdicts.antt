@@ -1,9 +1,13 @@
 -- First and any number below a limit, as loops find them.
-use Rattle.std.proofs.Common.{◌≡◌, ℕ, zero, suc, ◌<◌, ◌≤◌, Bool, true, false, Some, None, Option, sym, refl, ap, ◌∙◌, inl, inr, arith}
+use Rattle.std.proofs.Common.{◌≡◌, ℕ, zero, suc, ◌+◌, ◌<◌, ◌≤◌, Bool, true, false, Some, None, Option, sym, refl, ap, ◌∙◌, inl, inr, add-one, arith}
 use Rattle.std.proofs.lemmas.Bool.{cases_Bool, cases_eq, or_from, or_left, or_right, both_ways}
 use Rattle.assignment_laws.specs.Judging.{first_of, first_below, any_below}
 
 module _ (t : ℕ → Bool) where
+  -- a loop finds none up to k, and then none up to k + 1
+  pub first_more : (k : ℕ) → first_below t k ≡ None → t k ≡ false → first_below t (k + 1) ≡ None
+  first_more k e f = rw (add-one, e, f) refl
+
   first_here : (k : ℕ) → first_below t k ≡ None → t k ≡ true → first_below t (suc k) ≡ Some k
   first_here k e f = rw (e, f) refl
 
@@ -37,6 +41,9 @@ module _ (t : ℕ → Bool) where
       left_none : (o : Option ℕ) → first_of o None ≡ None → o ≡ None
       left_none None e = refl
       left_none (Some j) e = e
+
+  pub any_more : (k : ℕ) → any_below t k ≡ false → t k ≡ false → any_below t (k + 1) ≡ false
+  any_more k e f = rw add-one (or_from (t k) (any_below t k) f e)
 
   pub any_found : (k n : ℕ) → t k ≡ true → k < n → any_below t n ≡ true
   any_found k zero e l = absurd (omega arith)

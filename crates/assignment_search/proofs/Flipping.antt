@@ -1,11 +1,11 @@
 -- The path switched board by board, from its end to the root.
-use Rattle.std.proofs.Common.{◌≡◌, ℕ, ◌<◌, ◌≤◌, Some, None, slice_index_or, unwrap_or, sym, ap, ◌∙◌, subst, inl, inr, arith}
+use Rattle.std.proofs.Common.{◌≡◌, ℕ, ◌<◌, ◌≤◌, Some, None, slice_index_or, unwrap_or, sym, ap, ◌∙◌, subst, inl, inr, arith, rules}
 use Rattle.std.proofs.lemmas.Bool.{cases_eq}
 use Rattle.assignment_search.specs.declared.tree.Matching.{Matching}
 use Rattle.assignment_search.specs.declared.tree.Tree.{Tree}
 use Rattle.assignment_search.specs.Search.{val, mate, rank_of}
 use Rattle.assignment_search.specs.Trees.{Matched}
-use Rattle.assignment_search.specs.Paths.{Nearer, Route, Pairs, Freed, Switching, Given}
+use Rattle.assignment_search.specs.Paths.{Nearer, Route, Pairs, Freed, Switched, Switching, Given}
 
 module _ (n root : ℕ) (most : n ≤ 16) (m : Matching) (t : Tree) (e : ℕ) (start : Matched n root m 16) (route : Route n m root t e) where
   module _ (k : Matching) (b : ℕ) (s : Switching n m root t k b) (j : Matching) (g : Given k (val t.way b) b j) where
@@ -107,13 +107,29 @@ module _ (n root : ℕ) (most : n ≤ 16) (m : Matching) (t : Tree) (e : ℕ) (s
             kept = kept_more;
           }
 
+    module _ (last : x₀ ≡ root) (low : root < n) where
+      forth_last : (y : ℕ) → y < n → (y ≡ 16 → ⊥) → mate j.owner y < 16 → (mate j.owner y < n) × (mate j.naming (mate j.owner y) ≡ y)
+      forth_last y l d h =
+          elim (cases_eq y b) [
+            | inl q ↦ search rules
+            | inr f ↦
+                (let old = s.matched.forth y l f (omega (arith, g.owners y f, h)) in
+                let other : mate k.owner y ≡ x₀ → ⊥ = λ z. omega (arith, old.1, ap (mate k.naming) (z ∙ last), s.matched.unnamed root (omega arith) low) in
+                (omega (arith, g.owners y f, old.0), ap (mate j.naming) (g.owners y f) ∙ g.names (mate k.owner y) other ∙ old.1))
+          ]
+
+      pub switched_last : Switched n m root t j
+      switched_last =
+          record { matched = record { named = search rules; unnamed = search rules; back = search rules; forth = forth_last }; pairs = pairs_given 16; freed = search rules }
+
   -- the same, for a role that is known to be the way
   pub switching_step : (k : Matching) (b x y : ℕ) → Switching n m root t k b → x ≡ val t.way b → (x ≡ root → ⊥) → slice_index_or k.naming x None ≡ Some y → (j : Matching) → Given k x b j
-      → Switching n m root t j y
+      → Switching n m root t j y × (rank_of t y < rank_of t b)
   switching_step k b x y s e d is j g =
       let g' : Given k (val t.way b) b j = subst (λ z. Given k z b j) e g in
       elim (route.steps b s.board s.inside) [
         | inl q ↦ absurd (d (e ∙ q))
         | inr near ↦
-            subst (Switching n m root t j) (ap (mate k.naming) (sym e) ∙ ap (λ o. unwrap_or o 16) is) (switching_more k b s j g' near)
+            subst (λ z. Switching n m root t j z × (rank_of t z < rank_of t b)) (ap (mate k.naming) (sym e) ∙ ap (λ o. unwrap_or o 16) is)
+            (switching_more k b s j g' near, omega (arith, q₀_rank k b s j g' near, near.earlier))
       ]

@@ -19,7 +19,7 @@ use Rattle.overlays.proofs.Merging.{Side}
 use Rattle.splits.specs.Splits.{Cuts}
 
 -- the lowest number that passes
-found : (n m : ℕ) (p : ℕ → Bool) → m < n → first_below m p ≡ None → p m ≡ true → first_below n p ≡ Some m
+pub found : (n m : ℕ) (p : ℕ → Bool) → m < n → first_below m p ≡ None → p m ≡ true → first_below n p ≡ Some m
 found zero m p h e t = absurd (omega arith)
 found (suc n) m p h e t =
     elim (cases_eq m n) [
@@ -71,8 +71,8 @@ pub columns_cut : (op : Operation) (a b : Layout) → Fits op a b → Cuts a.col
 columns_cut op a b f =
     turned_cuts op a.columns a.rows (column_cuts b) (row_cuts b) (subst (λ n. Cuts n (column_cuts b)) f.1 (sound b).column_side) (subst (λ n. Cuts n (row_cuts b)) f.0 (sound b).row_side)
 
-pub cuts_as : (n : ℕ) (xs ys : List ℕ) → xs ≡ ys → Cuts n ys → Cuts n xs
-cuts_as n xs ys e c = subst (λ zs. Cuts n zs) (sym e) c
+pub cuts_as : (m n : ℕ) (xs ys : List ℕ) → m ≡ n → xs ≡ ys → Cuts n ys → Cuts m xs
+cuts_as m n xs ys e f c = subst (λ k. Cuts k xs) (sym e) (subst (λ zs. Cuts n zs) (sym f) c)
 
 -- what a turned reference points to
 pub turned_now : (op : Operation) (x y r : Bor (List ℕ)) (xs ys : List ℕ) → r ≡ turned op x y → x.now ≡ xs → y.now ≡ ys → r.now ≡ turned op xs ys

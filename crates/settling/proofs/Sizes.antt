@@ -14,7 +14,7 @@ use Rattle.overlays.specs.Packages.{bytes}
 use Rattle.tariffs.specs.Questions.{most_bytes}
 
 -- no package has more bytes than a tariff answers for
-bytes_most : (d : Drawing) (i x w : ℕ) → w ≤ 4 → bytes (package_of d i x) w ≤ most_bytes
+pub bytes_most : (d : Drawing) (i x w : ℕ) → w ≤ 4 → bytes (package_of d i x) w ≤ most_bytes
 bytes_most d i x w l = omega (arith, mul-le-mul (package_most d i x) l)
 
 -- v is what a drawing answers for a package, and 0 where it refuses to

@@ -4,7 +4,7 @@ use Rattle.assignment_search.proofs.paths.Path.switch.Goals as goal
 
 pub loop-role-preserved : goal.loop-role-preserved
 loop-role-preserved c = (
-  switching_step c.args.costs.now.boards c.args.root c.args.costs.now.most c.args.matching.now c.args.self.now.tree c.args.self.now.end c.requires.matched c.requires.route
+  (switching_step c.args.costs.now.boards c.args.root c.args.costs.now.most c.args.matching.now c.args.self.now.tree c.args.self.now.end c.requires.matched c.requires.route
       c.loop-role.matching
       c.loop-role.board
       c.loop-role.role
@@ -14,7 +14,7 @@ loop-role-preserved c = (
       c.loop-role-test.true
       c.unwrap-next.ensures
       c.give.new.matching
-      c.give.ensures.given,
+      c.give.ensures.given).0,
   refl,
   c.give.ensures.owners,
   c.give.ensures.names,
