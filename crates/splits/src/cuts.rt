@@ -1,5 +1,5 @@
 // Where a list of splits is wrong, and which of its blocks covers an index.
-ghost use Rattle.std.specs.Prelude.{◌≡◌, MatchOption};
+ghost use Rattle.std.specs.Prelude.{◌≡◌, MatchOption, drop};
 ghost use Rattle.splits.specs.Completing.{split_completes};
 ghost use Rattle.splits.specs.Splits.{Covered, covering, split_rule};
 ghost use Rattle.wrong_lists.specs.Lists.{first_wrong, Legal, WrongAt};
@@ -41,14 +41,23 @@ pub fn first_wrong_split(size: usize, splits: &[u16]) -> Option<usize>
     first_wrong(&SplitRule { size }, splits)
 }
 
+// The splits behind the first. A `skip` costs a loop at each step of a chain.
+fn behind_first(splits: &[u16]) -> &[u16]
+    ensures { result.now ≡ drop 1 splits.now }
+{
+    match splits {
+        [_, later @ ..] => later,
+        [] => splits,
+    }
+}
+
 // The block of a side that covers index `i`, for splits that begin with 0 and pass `i`.
 pub fn covering_block(splits: &[u16], i: usize) -> usize
     ensures value { result ≡ covering splits.now i }
     ensures law { Covered }
 {
-    splits
+    behind_first(splits)
         .iter()
-        .skip(1)
         .take_while(|split| **split as usize <= i)
         .count()
 }
