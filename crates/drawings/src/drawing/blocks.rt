@@ -2,7 +2,7 @@
 ghost use Rattle.std.specs.Prelude.{◌≡◌, ◌+◌, ◌*◌, ◌<◌, ◌≤◌};
 ghost use Rattle.drawings.specs.Cells.{IsCellOf, overlaid};
 ghost use Rattle.layouts.specs.Layouts.{blocks_of, owner_of};
-ghost use Rattle.overlays.specs.Overlays.{source_block, target_block};
+ghost use Rattle.overlays.specs.Overlays.{role, sender, source_block, target_block};
 
 use crate::drawing::cells::Cells;
 use drawing_parts::Cell;
@@ -23,14 +23,27 @@ impl Cells<'_> {
         ensures target { result.0 ≡ target_block (overlaid self.now) (i * self.now.columns.now.spans + j) }
         ensures source { result.1 ≡ source_block (overlaid self.now) (i * self.now.columns.now.spans + j) }
     {
-        let (row, column) = (self.rows.lines[i], self.columns.lines[j]);
-        let (x, y) = (row.source as usize, column.source as usize);
+        let (rows, columns) = (&self.rows.lines, &self.columns.lines);
+        let (x, y) = (rows[i].source as usize, columns[j].source as usize);
         let down = self.operation.turned(x, y);
         let across = self.operation.turned(y, x);
         (
-            row.target as usize * self.target.column_blocks + column.target as usize,
+            rows[i].target as usize * self.target.column_blocks + columns[j].target as usize,
             down * self.source.column_blocks + across,
         )
+    }
+
+    // The sender and the role of the cell in row `i` and column `j` of cells.
+    pub(crate) fn owners(&self, i: usize, j: usize) -> (usize, usize)
+        requires inside { (i < self.now.rows.now.spans) × (j < self.now.columns.now.spans) }
+        ensures bound { (result.0 < 16) × (result.1 < 16) }
+        ensures sender { result.0 ≡ sender (overlaid self.now) (i * self.now.columns.now.spans + j) }
+        ensures role { result.1 ≡ role (overlaid self.now) (i * self.now.columns.now.spans + j) }
+    {
+        let (target, source) = self.blocks(i, j);
+        let sender = owner_at(self.source, source);
+        let role = owner_at(self.target, target);
+        (sender, role)
     }
 
     // The cell in row `i` and column `j` of cells.
@@ -41,14 +54,14 @@ impl Cells<'_> {
     {
         let top = self.rows.lines[i].at;
         let left = self.columns.lines[j].at;
-        let (target, source) = self.blocks(i, j);
+        let (sender, role) = self.owners(i, j);
         Cell {
             top: top as usize,
             left: left as usize,
             height: (self.rows.lines[i + 1].at - top) as usize,
             width: (self.columns.lines[j + 1].at - left) as usize,
-            role: owner_at(self.target, target),
-            sender: owner_at(self.source, source),
+            role,
+            sender,
         }
     }
 }

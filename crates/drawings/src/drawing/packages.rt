@@ -12,9 +12,11 @@ impl Cells<'_> {
     {
         let mut packages = [0; 256];
         for i in 0..self.rows.spans {
+            let height = (self.rows.lines[i + 1].at - self.rows.lines[i].at) as u32;
             for j in 0..self.columns.spans {
-                let cell = self.cell(i, j);
-                packages[cell.sender * 16 + cell.role] += (cell.height * cell.width) as u32;
+                let width = (self.columns.lines[j + 1].at - self.columns.lines[j].at) as u32;
+                let (sender, role) = self.owners(i, j);
+                packages[sender * 16 + role] += height * width;
             }
         }
         packages

@@ -1,7 +1,6 @@
-use Rattle.std.proofs.Common.{sym, ap, ◌∙◌, arith}
-use Rattle.drawings.proofs.Drawings.{area_at, bottom_at, left_at, package_few, right_at, role_few, sender_few, source_in, tall_at, target_in, top_at, wide_at}
+use Rattle.std.proofs.Common.{sym, arith}
+use Rattle.drawings.proofs.Drawings.{area_at, bottom_at, left_at, package_few, right_at, tall_at, top_at, wide_at}
 use Rattle.drawings.proofs.drawing.cells.Cells.cell.Goals as goal
-use Rattle.layouts.specs.Layouts.{owner_of}
 
 pub overflow_sub-result : goal.overflow_sub-result
 overflow_sub-result c =
@@ -13,23 +12,11 @@ overflow_sub-result-2 c =
     let s = c.args.self.now in
     omega (arith, wide_at s.operation s.target.now s.source.now s.rows.now s.columns.now s.drawable c.args.i c.args.j c.requires.inside.0 c.requires.inside.1)
 
-pub owner_at-requires : goal.owner_at-requires
-owner_at-requires c =
-    let s = c.args.self.now in
-    omega (arith, c.blocks-target.ensures.target, target_in s.operation s.target.now s.source.now s.rows.now s.columns.now s.drawable c.args.i c.args.j c.requires.inside.0 c.requires.inside.1)
-
-pub owner_at-requires-2 : goal.owner_at-requires-2
-owner_at-requires-2 c =
-    let s = c.args.self.now in
-    omega (arith, c.blocks-target.ensures.source, source_in s.operation s.target.now s.source.now s.rows.now s.columns.now s.drawable c.args.i c.args.j c.requires.inside.0 c.requires.inside.1)
-
 pub returns-clause-bound : goal.returns-clause-bound
 returns-clause-bound c =
-    let s = c.args.self.now in
-    let role = c.owner_at.ensures ∙ ap (owner_of s.target.now) c.blocks-target.ensures.target in
-    let sender = c.owner_at-2.ensures ∙ ap (owner_of s.source.now) c.blocks-target.ensures.source in (
-      omega (arith, sender, sender_few s.operation s.target.now s.source.now s.rows.now s.columns.now s.drawable c.args.i c.args.j c.requires.inside.0 c.requires.inside.1),
-      omega (arith, role, role_few s.operation s.target.now s.source.now s.rows.now s.columns.now s.drawable c.args.i c.args.j c.requires.inside.0 c.requires.inside.1),
+    let s = c.args.self.now in (
+      c.owners-sender.ensures.bound.0,
+      c.owners-sender.ensures.bound.1,
       omega (arith, area_at s.operation s.target.now s.source.now s.rows.now s.columns.now s.drawable c.args.i c.args.j c.requires.inside.0 c.requires.inside.1, package_few s.operation s.target.now s.source.now s.rows.now s.columns.now s.drawable c.args.i c.args.j c.requires.inside.0 c.requires.inside.1),
     )
 
@@ -45,6 +32,6 @@ returns-clause-cell c =
       left = sym l;
       height = omega (arith, t, b);
       width = omega (arith, l, r);
-      role = c.owner_at.ensures ∙ ap (owner_of s.target.now) c.blocks-target.ensures.target;
-      sender = c.owner_at-2.ensures ∙ ap (owner_of s.source.now) c.blocks-target.ensures.source;
+      role = c.owners-sender.ensures.role;
+      sender = c.owners-sender.ensures.sender;
     }
