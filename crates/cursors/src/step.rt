@@ -118,7 +118,8 @@ pub fn next(
     let mut at = from;
     // The loop walks the cursor that it hands out, so no range of cells stands beside it.
     while let Ok(cell) = drawing.cell(at.cell) {
-        if at.stands(&cell, most) && cell.sender == sender && wanted.admits(cell.role) {
+        // The sender is asked first: most cells are another's, and to stand in one costs a division.
+        if cell.sender == sender && at.stands(&cell, most) && wanted.admits(cell.role) {
             return Some((at.run_at(&cell, most), at.advance(&cell, most)));
         }
         at = at.next_cell();

@@ -7,7 +7,7 @@ use Rattle.cursors.specs.Steps.{Found, left_at, passes, run_at, advance}
 use Rattle.runs.specs.Runs.{Run, pieces}
 use Rattle.cursors.proofs.Stepping.{bounded_is, cells_few, is_cell, no_cell, none_left, stands_on, passed_on, skip_absent, skip_unwanted, step}
 use Rattle.cursors.proofs.step.next.Goals as goal
-use Rattle.cursors.proofs.step.next.Goals.{else-stands-via-then-stands+then-cell-sender+else-admits, else-stands-via-then-stands+else-cell-sender, else-stands-via-else-stands}
+use Rattle.cursors.proofs.step.next.Goals.{else-cell-sender-via-then-cell-sender+then-stands+else-admits, else-cell-sender-via-then-cell-sender+else-stands, else-cell-sender-via-else-cell-sender}
 
 pub run_at-requires : goal.run_at-requires
 run_at-requires c =
@@ -60,10 +60,10 @@ loop-cell-preserved c =
     let some = (bounded_is c.args.longest).0 in
     let most : c.clamp-most.result ≡ bounded c.args.longest = omega (arith, c.clamp-most.ensures) in
     let skipped : (s : List Run) × (left_at d m i c.loop-cell.at ≡ s ++ left_at d m i (record { cell = c.loop-cell.at.cell + 1; row = 0; piece = 0 })) × AllByRecursion (λ v. passes d w v ≡ false) s =
-    elim c.else-stands.branch [
-      | else-stands-via-then-stands+then-cell-sender+else-admits v ↦ skip_unwanted d m i some c.loop-cell.at c.in-Ok.cell asked.1 one w (sym v.if-admits.ensures)
-      | else-stands-via-then-stands+else-cell-sender v ↦ skip_absent d m i some c.loop-cell.at c.in-Ok.cell asked.1 one w (λ s g h. v.if-cell-sender.false s)
-      | else-stands-via-else-stands v ↦
+    elim c.else-cell-sender.branch [
+      | else-cell-sender-via-then-cell-sender+then-stands+else-admits v ↦ skip_unwanted d m i some c.loop-cell.at c.in-Ok.cell asked.1 one w (sym v.if-admits.ensures)
+      | else-cell-sender-via-else-cell-sender v ↦ skip_absent d m i some c.loop-cell.at c.in-Ok.cell asked.1 one w (λ s g h. v.if-cell-sender.false s)
+      | else-cell-sender-via-then-cell-sender+else-stands v ↦
           skip_absent d m i some c.loop-cell.at c.in-Ok.cell asked.1 one w
           (λ s g h. both_ways _ (sym v.if-stands.ensures) (and_from _ _ (lt-ltb _ _ g) (lt-ltb _ _ (subst (λ n. c.loop-cell.at.piece < pieces c.in-Ok.cell.width n) (sym most) h))))
     ] in
