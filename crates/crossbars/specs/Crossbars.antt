@@ -10,7 +10,7 @@ use Rattle.crossbars.specs.declared.crossbar.Crossbar.{Crossbar}
 use Rattle.crossbars.specs.declared.inbox.Inbox.{Inbox}
 
 abbrev pub content : Inbox → List (List ℕ)
-content x = held x.words.items
+content x = held x.words x.used
 
 abbrev pub queue : Crossbar → ℕ → List (List ℕ)
 queue s k = slice_index_or (map content s.inboxes) k []

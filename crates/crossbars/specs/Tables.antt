@@ -1,7 +1,7 @@
 -- The crossbar's lists after one inbox changed.
-use Rattle.std.specs.Prelude.{◌≡◌, ℕ, zero, suc, ◌<◌, ◌≤◌, true, false, cond, List, [], ◌∷◌, ◌++◌, map, length, drop, ◌==◌, slice_index_or, slice_set, refl}
+use Rattle.std.specs.Prelude.{◌≡◌, ℕ, zero, suc, ◌<◌, ◌≤◌, true, false, cond, List, [], ◌∷◌, ◌++◌, map, length, take, drop, ◌==◌, slice_index_or, slice_set, refl}
 use Rattle.std.proofs.Common.{inl, inr, sym, ap, subst, ◌∙◌, arith}
-use Rattle.std.proofs.lemmas.List.{get_or-map, get_or-set_same, get_or-set_other, length-map, map-set}
+use Rattle.std.proofs.lemmas.List.{get_or-map, get_or-set_same, get_or-set_other, length-map, length-take-le, map-set}
 use Rattle.std.proofs.lemmas.Bool.{cases_eq, eq-eqb, ne_eqb, both_ways, cond-true, cond-false}
 use Rattle.links.specs.Calls.{LookDone}
 use Rattle.crossbars.specs.Crossbars.{content}
@@ -14,23 +14,27 @@ none_is [] e = refl
 none_is (f ∷ fs) e = absurd (both_ways false refl e)
 
 -- an inbox holds at most one frame
-pub younger_held : (words : List ℕ) → younger (held words) ≡ []
-younger_held [] = refl
-younger_held (w ∷ ws) = refl
+pub younger_held : (words : List ℕ) (used : ℕ) → younger (held words used) ≡ []
+younger_held words zero = refl
+younger_held words (suc used) = refl
 
-frames_held : (words : List ℕ) → length words ≤ 64 → Frames (held words)
-frames_held [] h = tt
-frames_held (w ∷ ws) h = ((omega arith, h), tt)
+frames_held : (words : List ℕ) (used : ℕ) → length words ≡ 64 → used ≤ 64 → Frames (held words used)
+frames_held words zero l h = tt
+frames_held words (suc used) l h =
+    let e : length (take (suc used) words) ≡ suc used = length-take-le (suc used) words (omega arith) in
+    ((omega arith, omega arith), tt)
 
 pub frames_at : (xs : List Inbox) (k : ℕ) → Frames (slice_index_or (map content xs) k [])
 frames_at [] k = tt
-frames_at (x ∷ xs) zero = frames_held x.words.items x.fits
+frames_at (x ∷ xs) zero = frames_held x.words x.used x.sized x.fits
 frames_at (x ∷ xs) (suc k) = frames_at xs k
 
-pub held_looked : (words room after : List ℕ) → length words ≤ 64 → none_waits (held words) ≡ false
-    → after ≡ words ++ drop (length words) room → LookDone (held words) room (length words) after
-held_looked [] room after h e p = absurd (both_ways true e refl)
-held_looked (w ∷ ws) room after h e p = record { size = refl; frame = (omega arith, h); copied = p }
+pub held_looked : (words : List ℕ) (used : ℕ) (room after : List ℕ) → length words ≡ 64 → used ≤ 64 → none_waits (held words used) ≡ false
+    → after ≡ take used words ++ drop used room → LookDone (held words used) room used after
+held_looked words zero room after l h e p = absurd (both_ways true e refl)
+held_looked words (suc used) room after l h e p =
+    let n : length (take (suc used) words) ≡ suc used = length-take-le (suc used) words (omega arith) in
+    record { size = sym n; frame = (omega arith, omega arith); copied = p }
 
 -- what waits for a board is what its inbox holds
 pub queue_at : (xs : List Inbox) (b : ℕ) (d : Inbox) → b < length xs → slice_index_or (map content xs) b [] ≡ content (slice_index_or xs b d)

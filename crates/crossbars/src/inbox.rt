@@ -1,15 +1,16 @@
 // One board's inbox: at most one frame.
-ghost use Rattle.std.specs.Prelude.{ℕ, ◌≤◌};
-ghost use Rattle.arrayvec.specs.ArrayVec.{array_vec_len};
+ghost use Rattle.std.specs.Prelude.{◌≡◌, ℕ, ◌≤◌, length};
 
-use arrayvec::ArrayVec;
 use links::link::MOST_WORDS;
 
-#[derive(Drop)]
+// No `ArrayVec`, which writes over its words when it is emptied: here a frame goes by one store.
+#[derive(Clone, Copy)]
 pub(crate) struct Inbox {
-    // The words of the frame; none where the inbox is empty.
-    words: ArrayVec<u32, MOST_WORDS>,
-    ghost fits: { array_vec_len words ≤ 64 },
+    words: [u32; MOST_WORDS],
+    // How many words the frame has; 0 where the inbox is empty.
+    used: usize,
+    ghost fits: { used ≤ 64 },
+    ghost sized: { length words ≡ 64 },
 }
 
 pub mod access;

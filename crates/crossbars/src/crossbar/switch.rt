@@ -14,7 +14,7 @@ use crate::inbox::Inbox;
 use faults::{Call, Cause, Fault, Layer};
 use links::Link;
 use links::checks::{check_board, check_buffer, check_count, check_frame};
-use std::array;
+use links::link::MOST_BOARDS;
 
 impl Crossbar {
     // A crossbar for 1 to 16 boards, with every inbox empty.
@@ -24,7 +24,7 @@ impl Crossbar {
         check_count(boards)?;
         Ok(Crossbar {
             boards,
-            inboxes: array::from_fn(|_| Inbox::empty()),
+            inboxes: [Inbox::empty(); MOST_BOARDS],
         })
     }
 }

@@ -16,5 +16,5 @@ returns c =
     let q : queue s b ≡ content x = queue_at s.inboxes b d lt in
     let o : none_waits (queue s b) ≡ false = ap none_waits q ∙ sym c.if-is_empty.ensures in
     let p = drop_some s.boards b (queue s b) kept o in
-    let y : content c.clear.new.self ≡ younger (queue s b) = c.clear.ensures ∙ sym (ap younger q ∙ younger_held x.words.items) in
+    let y : content c.clear.new.self ≡ younger (queue s b) = c.clear.ensures ∙ sym (ap younger q ∙ younger_held x.words x.used) in
     record { answer = (p, record { count = refl; lists = changed_by s.inboxes b c.clear.new.self lt younger y }) }
