@@ -61,11 +61,14 @@ impl<E: Element> Book<E> {
     ) -> Result<(), BookFault>
         ensures { DrawStep letter target.now source.now alpha source_share target_share self.old.stage result self.new.stage }
     {
-        let drawing = Drawing::new(letter, target, source, source_share, target_share).map_err(
-            |fault| BookFault::new(Call::Draw, fault),
-        )?;
-        self.stage = Stage::Drawn(Turn { drawing, alpha });
-        Ok(())
+        // A `map_err` here would copy the drawing once more.
+        match Drawing::new(letter, target, source, source_share, target_share) {
+            Ok(drawing) => {
+                self.stage = Stage::Drawn(Turn { drawing, alpha });
+                Ok(())
+            }
+            Err(fault) => Err(BookFault::new(Call::Draw, fault)),
+        }
     }
 
     // What is drawn, for a call that needs it.
@@ -76,6 +79,7 @@ impl<E: Element> Book<E> {
     }
 
     // Takes what the call found for the turn, and stays as it is where that is a fault.
+    #[inline(always)]
     fn take(
         &mut self,
         call: Call,

@@ -1,6 +1,6 @@
 // From a job to its plan: the layouts are made, then the tariff, then the drawing, and the plan is settled
 // or proposed.
-ghost use Rattle.std.specs.Prelude.{◌≡◌, MatchResult};
+ghost use Rattle.std.specs.Prelude.{◌≡◌, IfOk, MatchResult};
 
 use crate::planned::Planned;
 use crate::refusal::Refusal;
@@ -35,30 +35,6 @@ struct Request<'a> {
     source: Layout,
     target: Layout,
     wish: Wish<'a>,
-}
-
-// What a request comes to.
-#[derive(Clone, Copy)]
-struct Found {
-    words: u8,
-    drawing: Drawing,
-    own: u64,
-    plan: Plan,
-}
-
-impl Found {
-    fn planned(self, boards: usize) -> Planned
-        ensures count { result.boards ≡ boards }
-    {
-        Planned {
-            boards,
-            words: self.words,
-            drawing: self.drawing,
-            own: self.own,
-            bill: self.plan.bill,
-            plan: self.plan,
-        }
-    }
 }
 
 fn layout(boards: usize, text: &LayoutText) -> Result<Layout, Fault> {
@@ -117,19 +93,25 @@ impl Request<'_> {
         Ok(book.plan()?)
     }
 
-    fn with_element<E: Element, T: Tariff>(&self, tariff: &T, alpha: E) -> Result<Found, Stop> {
+    fn with_element<E: Element, T: Tariff>(&self, tariff: &T, alpha: E) -> Result<Planned, Stop>
+        ensures count { IfOk result (λ p. p.boards ≡ self.now.job.now.boards) }
+    {
         let plan = self.plan(tariff, alpha)?;
         let drawing = self.drawing()?;
         let own = own_names(&drawing, alpha, tariff)?;
-        Ok(Found {
+        Ok(Planned {
+            boards: self.job.boards,
             words: E::size() as u8,
             drawing,
             own,
+            bill: plan.bill,
             plan,
         })
     }
 
-    fn with_tariff<T: Tariff>(&self, tariff: &T) -> Result<Found, Stop> {
+    fn with_tariff<T: Tariff>(&self, tariff: &T) -> Result<Planned, Stop>
+        ensures count { IfOk result (λ p. p.boards ≡ self.now.job.now.boards) }
+    {
         match self.job.alpha {
             Alpha::Word(value) => self.with_element(tariff, Word::from_words([value, 0, 0, 0])),
             Alpha::Pair(real, imaginary) => {
@@ -140,7 +122,9 @@ impl Request<'_> {
 
     // Lays the job's surcharges over a tariff. Each one makes another type, and there are at most two: an arm for each
     // count is plainer than a recursion over a `dyn` tariff, which needs an impl of its own.
-    fn with_surcharges<T: Tariff + Drop>(&self, tariff: T) -> Result<Found, Stop> {
+    fn with_surcharges<T: Tariff + Drop>(&self, tariff: T) -> Result<Planned, Stop>
+        ensures count { IfOk result (λ p. p.boards ≡ self.now.job.now.boards) }
+    {
         match self.job.surcharges.as_slice() {
             [] => self.with_tariff(&tariff),
             [first] => self.with_tariff(&surcharged(tariff, first)?),
@@ -151,7 +135,9 @@ impl Request<'_> {
     }
 }
 
-fn fulfil(job: &Job, wish: Wish<'_>) -> Result<Found, Stop> {
+fn fulfil(job: &Job, wish: Wish<'_>) -> Result<Planned, Stop>
+    ensures count { IfOk result (λ p. p.boards ≡ job.now.boards) }
+{
     let source = layout(job.boards, &job.source)?;
     let target = layout(job.boards, &job.target)?;
     let request = Request {
@@ -170,12 +156,14 @@ fn fulfil(job: &Job, wish: Wish<'_>) -> Result<Found, Stop> {
 fn answer(job: &Job, wish: Wish<'_>) -> Result<Planned, Refusal>
     ensures count { MatchResult result (λ p. p.boards ≡ job.now.boards) (λ f. f.boards ≡ job.now.boards) }
 {
-    fulfil(job, wish)
-        .map(|found| found.planned(job.boards))
-        .map_err(|stop| Refusal {
+    // A `map_err` would copy the drawing once more.
+    match fulfil(job, wish) {
+        Ok(planned) => Ok(planned),
+        Err(stop) => Err(Refusal {
             cause: stop.cause,
             boards: job.boards,
-        })
+        }),
+    }
 }
 
 // The job's plan of least bill.

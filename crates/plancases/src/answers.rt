@@ -1,49 +1,36 @@
 // The answers to cases.
 use crate::cases::Case;
 use faults::Cause;
-use jobplans::{Planned, Refusal, Summary, adopted, settled};
-use jobs::{Mistake, parse};
+use jobplans::{Summary, adopted, settled};
+use jobs::{Job, Mistake, parse};
 use plans::{SHEET, echo};
+use std::io;
 use std::io::Write;
-use std::{fmt, io};
 
-// Why a job has no plan.
-#[derive(Clone, Copy)]
-enum Unplanned<'a> {
-    Mistaken(Mistake<'a>),
-    Refused(Refusal),
+fn tell_mistake(rt: &HostRuntime, mistake: Mistake<'_>) -> io::Result<()> {
+    let line = mistake.line;
+    let wrong = mistake.wrong;
+    println!(rt; "mistake {line}: {wrong}")
 }
 
-impl<'a> From<Mistake<'a>> for Unplanned<'a> {
-    fn from(mistake: Mistake<'a>) -> Unplanned<'a> {
-        Unplanned::Mistaken(mistake)
-    }
-}
-
-impl<'a> From<Refusal> for Unplanned<'a> {
-    fn from(refusal: Refusal) -> Unplanned<'a> {
-        Unplanned::Refused(refusal)
-    }
-}
-
-impl fmt::Display for Unplanned<'_> {
-    fn fmt<W: fmt::Write>(&self, f: &mut fmt::Formatter<W>) -> fmt::Result {
-        match self {
-            Unplanned::Mistaken(Mistake { line, wrong, .. }) => write!(
-                f,
-                "mistake {line}: {wrong}"
-            ),
-            Unplanned::Refused(refusal) => write!(f, "{refusal}"),
+fn plan(rt: &HostRuntime, job: &Job) -> io::Result<()> {
+    match settled(job) {
+        Ok(planned) => {
+            let summary = Summary(&planned);
+            print!(rt; "{summary}")
         }
+        Err(refusal) => println!(rt; "{refusal}"),
     }
 }
 
-fn plan<'a>(rt: &HostRuntime, job: &'a [u8]) -> Result<Planned, Unplanned<'a>> {
-    Ok(settled(&parse(rt.alloc(), job)?)?)
-}
-
-fn check<'a>(rt: &HostRuntime, job: &'a [u8], sheet: &[u8]) -> Result<Planned, Unplanned<'a>> {
-    Ok(adopted(&parse(rt.alloc(), job)?, sheet)?)
+fn check(rt: &HostRuntime, job: &Job, sheet: &[u8]) -> io::Result<()> {
+    match adopted(job, sheet) {
+        Ok(planned) => {
+            let bill = planned.bill;
+            println!(rt; "taken, bill {bill}")
+        }
+        Err(refusal) => println!(rt; "{refusal}"),
+    }
 }
 
 fn echoed(rt: &HostRuntime, bytes: &[u8]) -> io::Result<()> {
@@ -62,16 +49,13 @@ fn echoed(rt: &HostRuntime, bytes: &[u8]) -> io::Result<()> {
 
 pub fn answer(rt: &HostRuntime, case: Case<'_>) -> io::Result<()> {
     match case {
-        Case::Plan { job } => match plan(rt, job) {
-            Ok(planned) => {
-                let summary = Summary(&planned);
-                print!(rt; "{summary}")
-            }
-            Err(unplanned) => println!(rt; "{unplanned}"),
+        Case::Plan { job } => match parse(rt.alloc(), job) {
+            Ok(job) => plan(rt, &job),
+            Err(mistake) => tell_mistake(rt, mistake),
         },
-        Case::Check { job, sheet } => match check(rt, job, sheet) {
-            Ok(Planned { bill, .. }) => println!(rt; "taken, bill {bill}"),
-            Err(unplanned) => println!(rt; "{unplanned}"),
+        Case::Check { job, sheet } => match parse(rt.alloc(), job) {
+            Ok(job) => check(rt, &job, sheet),
+            Err(mistake) => tell_mistake(rt, mistake),
         },
         Case::Echo { sheet } => echoed(rt, sheet),
     }
