@@ -1,36 +1,57 @@
 // The answers to cases.
 use crate::cases::Case;
 use faults::Cause;
-use jobplans::{Summary, adopted, settled};
-use jobs::{Job, Mistake, parse};
+use jobplans::{Planned, Refusal, Summary, adopted, settled};
+use jobs::{Mistake, parse};
 use plans::{SHEET, echo};
-use std::io;
 use std::io::Write;
+use std::{fmt, io};
 
-fn tell_mistake(rt: &HostRuntime, mistake: Mistake<'_>) -> io::Result<()> {
-    let line = mistake.line;
-    let wrong = mistake.wrong;
-    println!(rt; "mistake {line}: {wrong}")
+// Why a job has no plan.
+#[derive(Clone, Copy)]
+enum Unplanned<'a> {
+    Mistaken(Mistake<'a>),
+    Refused(Refusal),
 }
 
-fn plan(rt: &HostRuntime, job: &Job) -> io::Result<()> {
-    match settled(job) {
-        Ok(planned) => {
-            let summary = Summary(&planned);
-            print!(rt; "{summary}")
-        }
-        Err(refusal) => println!(rt; "{refusal}"),
+impl<'a> From<Mistake<'a>> for Unplanned<'a> {
+    fn from(mistake: Mistake<'a>) -> Unplanned<'a> {
+        Unplanned::Mistaken(mistake)
     }
 }
 
-fn check(rt: &HostRuntime, job: &Job, sheet: &[u8]) -> io::Result<()> {
-    match adopted(job, sheet) {
-        Ok(planned) => {
-            let bill = planned.bill;
-            println!(rt; "taken, bill {bill}")
-        }
-        Err(refusal) => println!(rt; "{refusal}"),
+impl<'a> From<Refusal> for Unplanned<'a> {
+    fn from(refusal: Refusal) -> Unplanned<'a> {
+        Unplanned::Refused(refusal)
     }
+}
+
+impl fmt::Display for Unplanned<'_> {
+    fn fmt<W: fmt::Write>(&self, f: &mut fmt::Formatter<W>) -> fmt::Result {
+        match self {
+            Unplanned::Mistaken(Mistake { line, wrong, .. }) => write!(
+                f,
+                "mistake {line}: {wrong}"
+            ),
+            Unplanned::Refused(refusal) => write!(f, "{refusal}"),
+        }
+    }
+}
+
+// Tells the plan where it is found: to hand it on would copy its drawing.
+fn plan<'a>(rt: &HostRuntime, job: &'a [u8]) -> Result<io::Result<()>, Unplanned<'a>> {
+    let planned = settled(&parse(rt.alloc(), job)?)?;
+    let summary = Summary(&planned);
+    Ok(print!(rt; "{summary}"))
+}
+
+fn check<'a>(
+    rt: &HostRuntime,
+    job: &'a [u8],
+    sheet: &[u8],
+) -> Result<io::Result<()>, Unplanned<'a>> {
+    let Planned { bill, .. } = adopted(&parse(rt.alloc(), job)?, sheet)?;
+    Ok(println!(rt; "taken, bill {bill}"))
 }
 
 fn echoed(rt: &HostRuntime, bytes: &[u8]) -> io::Result<()> {
@@ -48,15 +69,10 @@ fn echoed(rt: &HostRuntime, bytes: &[u8]) -> io::Result<()> {
 }
 
 pub fn answer(rt: &HostRuntime, case: Case<'_>) -> io::Result<()> {
-    match case {
-        Case::Plan { job } => match parse(rt.alloc(), job) {
-            Ok(job) => plan(rt, &job),
-            Err(mistake) => tell_mistake(rt, mistake),
-        },
-        Case::Check { job, sheet } => match parse(rt.alloc(), job) {
-            Ok(job) => check(rt, &job, sheet),
-            Err(mistake) => tell_mistake(rt, mistake),
-        },
-        Case::Echo { sheet } => echoed(rt, sheet),
-    }
+    let told = match case {
+        Case::Plan { job } => plan(rt, job),
+        Case::Check { job, sheet } => check(rt, job, sheet),
+        Case::Echo { sheet } => return echoed(rt, sheet),
+    };
+    told.unwrap_or_else(|unplanned| println!(rt; "{unplanned}"))
 }
